@@ -1,0 +1,99 @@
+ghost use Rattle.std.specs.Prelude.{◌≡◌, ◌+◌, ◌<◌, [], ◌∷◌, ◌++◌, OnOk};
+ghost use Rattle.std.specs.Prelude.{decimal};
+ghost use Rattle.edge_base.specs.Printed.{is_printed_byte, hex_digit, escaped_byte, escaped};
+
+use crate::refusal::Memory;
+use crate::text::Text;
+use std::alloc::Global;
+use std::marker::Model;
+
+/// A text that is being put together. Contracts see the bytes so far.
+#[derive(Debug, Drop)]
+pub struct TextBuilder {
+    bytes: Vec<u8>,
+}
+
+impl Model for TextBuilder {
+    ghost use Rattle.std.specs.Prelude.{List, ℕ};
+
+    ghost Value = { List ℕ };
+
+    ghost view = { λ builder. builder.bytes.items };
+}
+
+/// Whether a byte is printed as itself.
+fn is_printed_byte(byte: u8) -> bool
+    ensures { result ≡ is_printed_byte byte }
+{
+    32 < byte && byte < 127 && byte != b'%' && byte != b','
+}
+
+/// A digit in base 16, in upper case.
+fn hex_digit(n: u8) -> u8
+    requires { n < 16 }
+    ensures { result ≡ hex_digit n }
+{
+    if n < 10 { b'0' + n } else { 55 + n }
+}
+
+impl TextBuilder {
+    /// An empty text. Takes no memory.
+    pub fn new(alloc: Global) -> TextBuilder
+        ensures { result ≡ [] }
+    {
+        TextBuilder {
+            bytes: Vec::new(alloc),
+        }
+    }
+
+    pub fn push(&mut self, bytes: &[u8]) -> Result<(), Memory>
+        ensures { OnOk result (self.new ≡ self.old ++ bytes.now) }
+    {
+        self.bytes.extend_from_slice(bytes)?;
+        Ok(())
+    }
+
+    /// A number in decimal.
+    pub fn push_number(&mut self, alloc: Global, n: u64) -> Result<(), Memory>
+        ensures { OnOk result (self.new ≡ self.old ++ decimal n) }
+    {
+        let digits = n.to_string(alloc)?;
+        self.push(digits.as_bytes())
+    }
+
+    /// One byte, as itself or as `%` and two digits.
+    fn push_escaped_byte(&mut self, byte: u8) -> Result<(), Memory>
+        ensures { OnOk result (self.new ≡ self.old ++ escaped_byte byte) }
+    {
+        if is_printed_byte(byte) {
+            self.push(&[byte])
+        } else {
+            self.push(&[b'%', hex_digit(byte / 16), hex_digit(byte % 16)])
+        }
+    }
+
+    /// A text in which blanks, control bytes, bytes from 0x7F on, `%` and `,` are escaped.
+    pub fn push_escaped(&mut self, text: &[u8]) -> Result<(), Memory>
+        ensures { OnOk result (self.new ≡ self.old ++ escaped text.now) }
+    {
+        for &byte in text {
+            self.push_escaped_byte(byte)?;
+        }
+        Ok(())
+    }
+
+    /// Takes no memory.
+    pub fn bytes(&self) -> &[u8]
+        ensures { result.now ≡ self.now }
+    {
+        self.bytes.as_slice()
+    }
+
+    /// Takes no memory.
+    pub fn into_text(self) -> Text
+        ensures { result ≡ self }
+    {
+        let TextBuilder { bytes } = self;
+        Text::from_vec(bytes)
+    }
+}
