@@ -1,4 +1,4 @@
-ghost use Rattle.std.specs.Prelude.{◌≡◌, ◌+◌, ◌<◌, [], ◌∷◌, ◌++◌, OnOk};
+ghost use Rattle.std.specs.Prelude.{◌≡◌, ◌+◌, ◌<◌, [], ◌∷◌, ◌++◌, length, OnOk, OnErr};
 ghost use Rattle.std.specs.Prelude.{decimal};
 ghost use Rattle.edge_base.specs.Printed.{is_printed_byte, hex_digit, escaped_byte, escaped};
 
@@ -46,8 +46,10 @@ impl TextBuilder {
         }
     }
 
+    /// Adds these bytes; a refusal adds nothing.
     pub fn push(&mut self, bytes: &[u8]) -> Result<(), Memory>
-        ensures { OnOk result (self.new ≡ self.old ++ bytes.now) }
+        ensures ok { OnOk result (self.new ≡ self.old ++ bytes.now) }
+        ensures err { OnErr result (self.new ≡ self.old) }
     {
         self.bytes.extend_from_slice(bytes)?;
         Ok(())
@@ -80,6 +82,20 @@ impl TextBuilder {
             self.push_escaped_byte(byte)?;
         }
         Ok(())
+    }
+
+    /// Empties the text, and keeps its memory for the next one. Takes no memory.
+    pub fn clear(&mut self)
+        ensures { self.new ≡ [] }
+    {
+        self.bytes.clear();
+    }
+
+    /// Takes no memory.
+    pub fn len(&self) -> usize
+        ensures { result ≡ length self.now }
+    {
+        self.bytes.len()
     }
 
     /// Takes no memory.
