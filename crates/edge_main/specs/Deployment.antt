@@ -1,0 +1,95 @@
+-- Which deployments are taken, and what each puts in force: at most one rule, which blocks the requests for one path.
+use Rattle.std.specs.Prelude.{ℕ, ◌&&◌, ◌||◌, ◌==◌, nat_lt, nat_le, Bool, true, false, List, length, codes, Option, Some, None, option_map, option_and_then}
+use Rattle.std.specs.List.{list_all}
+use Rattle.std.specs.Str.{bytes_eq}
+use Rattle.serde_json.specs.Data.{Data, Items, no_items, item, Members}
+use Rattle.serde_json.specs.Find.{get, as_str, as_array, as_object}
+use Rattle.serde_json.specs.Events.{members_len}
+use Rattle.expr_parser.specs.Form.{form_of}
+use Rattle.edge_main.specs.declared.deployment.Deployed.{Deployed}
+use Rattle.edge_main.specs.declared.deployment.PathRule.{PathRule}
+
+-- an ASCII letter, a digit, `_` or `-`
+abbrev pub is_id_byte : ℕ → Bool
+is_id_byte byte = (nat_le 97 byte && nat_le byte 122) || (nat_le 65 byte && nat_le byte 90) || (nat_le 48 byte && nat_le byte 57) || byte == 95 || byte == 45
+
+-- an id: 1 to 64 of these bytes
+abbrev pub is_id : List ℕ → Bool
+is_id text = nat_lt 0 (length text) && nat_le (length text) 64 && list_all is_id_byte text
+
+-- what was found, where the test holds
+abbrev pub tested : {A : Type 0} → Bool → Option A → Option A
+tested true found = found
+tested false found = None
+
+-- the members are so many
+abbrev pub are_so_many : ℕ → Option Members → Bool
+are_so_many count None = false
+are_so_many count (Some members) = members_len members == count
+
+-- the value is an object of so many members
+abbrev pub has_members : ℕ → Data → Bool
+has_members count value = are_so_many count (as_object value)
+
+-- the text of a member
+abbrev pub text_of : List ℕ → Data → Option (List ℕ)
+text_of name value = option_and_then as_str (get name value)
+
+-- the text is the one that is wanted
+abbrev pub is_same_text : List ℕ → Option (List ℕ) → Bool
+is_same_text wanted None = false
+is_same_text wanted (Some text) = bytes_eq text wanted
+
+-- a member is this text
+abbrev pub is_text : List ℕ → List ℕ → Data → Bool
+is_text name wanted value = is_same_text wanted (text_of name value)
+
+-- the id of a ruleset or a rule
+abbrev pub id_of : Data → Option (List ℕ)
+id_of value = option_and_then (λ id. tested (is_id id) (Some id)) (text_of (codes "id") value)
+
+-- the element of an array that has at most one
+abbrev pub at_most_one : Items → Option (Option Data)
+at_most_one no_items = Some None
+at_most_one (item value no_items) = Some (Some value)
+at_most_one (item value (item other values)) = None
+
+-- the element of an array member that has at most one
+abbrev pub only_of : List ℕ → Data → Option (Option Data)
+only_of name value = option_and_then at_most_one (option_and_then as_array (get name value))
+
+abbrev pub named_rule : List ℕ → List ℕ → List ℕ → PathRule
+named_rule set_id id path = record { name = record { set_id = set_id; rule = id }; path = path }
+
+-- a rule: an id, an expression that compares the path, and the action `block`
+abbrev pub rule_of : List ℕ → Data → Option PathRule
+rule_of set_id value =
+    tested (has_members 3 value && is_text (codes "action") (codes "block") value)
+        (option_and_then
+            (λ id. option_map (named_rule set_id id) (option_and_then form_of (text_of (codes "expression") value)))
+            (id_of value))
+
+-- nothing where there is no rule, and else the rule
+abbrev pub rules_of : List ℕ → Option Data → Option Deployed
+rules_of set_id None = Some (record { rule = None })
+rules_of set_id (Some value) = option_map (λ rule. record { rule = Some rule }) (rule_of set_id value)
+
+-- the kind and the phase that are taken, among four members
+abbrev pub is_taken_set : Data → Bool
+is_taken_set value = has_members 4 value && is_text (codes "kind") (codes "zone") value && is_text (codes "phase") (codes "http_request_firewall_custom") value
+
+-- a ruleset: of that kind and phase, with an id and at most one rule
+abbrev pub set_of : Data → Option Deployed
+set_of value =
+    tested (is_taken_set value)
+        (option_and_then
+            (λ id. option_and_then (rules_of id) (only_of (codes "rules") value))
+            (id_of value))
+
+abbrev pub sets_of : Option Data → Option Deployed
+sets_of None = Some (record { rule = None })
+sets_of (Some value) = set_of value
+
+-- a deployment: the one member `rulesets`, an array of at most one ruleset
+abbrev pub deployed_of : Data → Option Deployed
+deployed_of value = tested (has_members 1 value) (option_and_then sets_of (only_of (codes "rulesets") value))
