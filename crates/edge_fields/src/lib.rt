@@ -1,0 +1,11 @@
+//! The values of the Rules language and their kinds, the fields of a request and its reply, and the names of fields
+//! and functions. How a field is computed stands in `specs/Fields.antt`.
+#![tactic(auto)]
+
+mod kind;
+mod text_map;
+mod value;
+
+pub use kind::{Basic, Kind};
+pub use text_map::TextMap;
+pub use value::{Value, Values};
