@@ -3,9 +3,11 @@
 #![tactic(auto)]
 
 mod kind;
+mod target;
 mod text_map;
 mod value;
 
 pub use kind::{Basic, Kind};
+pub use target::{UriParts, path_of, query_of, uri_of};
 pub use text_map::TextMap;
 pub use value::{Value, Values};
