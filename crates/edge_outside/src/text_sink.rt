@@ -1,4 +1,4 @@
-ghost use Rattle.std.specs.Prelude.{◌≡◌, ◌↔◌, ◌⊎◌, [], ◌+◌, ◌<◌, ◌≤◌, length, take, Some, Contains, vec_len, vec_capacity, IsErr, IfOk, OnErr};
+ghost use Rattle.std.specs.Prelude.{◌≡◌, ◌↔◌, ◌⊎◌, [], ◌<◌, ◌≤◌, length, take, Some, Contains, IsErr, IfOk, OnErr};
 ghost use Rattle.std.specs.Io.{WritesAtMost};
 ghost use Rattle.std.specs.Io.KnownBytes.{WriteAppends};
 ghost use Rattle.edge_outside.specs.Faults.{Rose};
@@ -25,6 +25,7 @@ pub struct TextSink {
 }
 
 impl Model for TextSink {
+    ghost use Rattle.std.specs.Prelude.{◌+◌, ◌≤◌, vec_len, vec_capacity};
     ghost use Rattle.edge_outside.specs.InMemory.{Store};
 
     ghost Value = { Store };

@@ -26,7 +26,7 @@ pub struct TextSource {
 }
 
 impl Model for TextSource {
-    ghost use Rattle.std.specs.Prelude.{drop};
+    ghost use Rattle.std.specs.Prelude.{◌≤◌, length, take, drop};
     ghost use Rattle.edge_outside.specs.InMemory.{Supply};
 
     ghost Value = { Supply };
