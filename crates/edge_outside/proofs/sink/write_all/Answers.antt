@@ -1,0 +1,14 @@
+use Rattle.std.proofs.Common.{take, arith, length-drop}
+use Rattle.std.proofs.lemmas.List.{take_rest}
+use Rattle.std.proofs.Math.Seq.{take-add}
+use Rattle.std.proofs.KnownBytes.{Appends-trans}
+use Rattle.edge_outside.proofs.sink.write_all.Goals as goal
+
+pub loop-at-preserved : goal.loop-at-preserved
+loop-at-preserved g c =
+    let bytes = c.args.bytes.now in
+    let took = rw take_rest at c.in_ok-at.ensures.bytes in record {
+      in_range = omega (arith, simp (take_rest, length-drop) at c.in_ok-at.ensures.bound);
+      got = rw (take-add c.loop-at.at c.in_ok-at.field-0 bytes) (Appends-trans _ _ _ _ _ c.loop-at.invariant.got took);
+      later = omega (arith, c.loop-at.invariant.later, c.write.ensures.later);
+    }

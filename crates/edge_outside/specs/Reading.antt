@@ -1,0 +1,47 @@
+-- What a line reader stands for, and what each of its steps says of the text before it.
+use Rattle.std.specs.Prelude.{◌≡◌, ℕ, ◌+◌, ◌-◌, ◌^◌, ◌<◌, ◌≤◌, Bool, true, false, List, [], ◌∷◌, ◌++◌, length, Option, Some}
+use Rattle.std.specs.Prelude.{option_to_list, if◌then◌else◌}
+use Rattle.edge_outside.specs.Lines.{lines_of, NoNewline}
+use Rattle.edge_outside.specs.declared.line_reader.LineReader.{LineReader}
+use Rattle.edge_outside.specs.declared.line_reader.LineStep.{LineStep}
+use Rattle.edge_outside.specs.declared.line_reader.LineStep.TheVariants as step
+
+-- the line that was given last
+abbrev pub line_of : LineReader → List ℕ
+line_of reader = reader.buffer.line
+
+-- the bytes that were taken and are neither given nor read past
+abbrev pub ahead_of : LineReader → List ℕ
+ahead_of reader = reader.buffer.begun ++ reader.buffer.rest ++ option_to_list reader.aside
+
+-- what was read past: nothing, or the front of a line that is too long
+abbrev pub IsPast : Bool → List ℕ → Type 0
+IsPast false past = past ≡ []
+IsPast true past = (2 ^ 20 < length past) × NoNewline past
+
+-- the reader stands before this text, which ends with what its source has left
+pub record Stands (reader : LineReader) (left : Option (List ℕ)) (text : List ℕ) : Type 0 where
+  pub past : List ℕ
+  pub source : List ℕ
+  pub is_past : IsPast reader.long past
+  pub is_left : left ≡ Some source
+  pub is_text : text ≡ past ++ (ahead_of reader ++ source)
+
+-- the text begins with this line, and the reader stands after it
+pub record Gives (reader : LineReader) (left : Option (List ℕ)) (text line : List ℕ) : Type 0 where
+  pub rest : List ℕ
+  pub is_first : lines_of text ≡ line ∷ lines_of rest
+  pub after : Stands reader left rest
+
+-- what a step says of the text that the reader stood before
+abbrev pub StepOf : LineStep → LineReader → Option (List ℕ) → List ℕ → Type 0
+StepOf step.Line reader left text = (length (line_of reader) ≤ 2 ^ 20) × Gives reader left text (line_of reader)
+StepOf step.Long reader left text = (line : List ℕ) × (2 ^ 20 < length line) × Gives reader left text line
+StepOf step.End reader left text = (text ≡ []) × Stands reader left []
+StepOf step.Fault reader left text = Stands reader left text
+StepOf step.LongInput reader left text = Stands reader left text
+
+-- how many lines the reader can still give, at most: the bytes not yet taken, those taken and not given, and one for a
+-- line that is read past
+abbrev pub weight : LineReader → ℕ
+weight reader = (2 ^ 40 - reader.taken) + length (ahead_of reader) + (if reader.long then 1 else 0)

@@ -1,0 +1,40 @@
+ghost use Rattle.std.specs.Prelude.{ℕ, ◌<◌, ◌≤◌, length, take, IfOk, OnOk, OnErr};
+ghost use Rattle.std.specs.Io.{WritesAtMost};
+ghost use Rattle.std.specs.Io.KnownBytes.{Appends, WriteAppends};
+ghost use Rattle.edge_outside.specs.Faults.{Rose};
+
+use crate::failure::Failed;
+
+/// What bytes are written to.
+pub trait Sink {
+    ghost use Rattle.std.specs.Prelude.{ℕ, List, Option};
+
+    // The bytes written so far, where they are told.
+    ghost got: { Self → Option (List ℕ) };
+
+    // How many writes failed.
+    ghost faults: { Self → ℕ };
+
+    /// Takes a front of the piece, at least a byte of one that isn't empty.
+    fn write(&mut self, piece: &[u8]) -> Result<usize, Failed>
+        ensures bound { WritesAtMost result piece.now }
+        ensures bytes { WriteAppends (got self.old) (got self.new) result piece.now }
+        ensures moves { IfOk result (λ count. 0 < length piece.now → 0 < count) }
+        ensures failed { OnErr result (Rose (faults self.old) (faults self.new)) }
+        ensures later { faults self.old ≤ faults self.new };
+}
+
+/// Writes all of the bytes, or a front of them until a write fails.
+pub fn write_all<K: Sink>(sink: &mut K, bytes: &[u8]) -> Result<(), Failed>
+    ensures ok { OnOk result (Appends (K.got sink.old) (K.got sink.new) bytes.now) }
+    ensures err { OnErr result ((count : ℕ) × (count < length bytes.now)
+        × Appends (K.got sink.old) (K.got sink.new) (take count bytes.now)) }
+    ensures failed { OnErr result (Rose (K.faults sink.old) (K.faults sink.new)) }
+    ensures later { K.faults sink.old ≤ K.faults sink.new }
+{
+    let mut at = 0;
+    while at < bytes.len() {
+        at += sink.write(&bytes[at..])?;
+    }
+    Ok(())
+}
