@@ -1,6 +1,6 @@
 -- The lines of texts that are put together.
-use Rattle.std.proofs.Common.{◌≡◌, ◌≢◌, ℕ, zero, suc, ◌<◌, List, [], ◌∷◌, ◌++◌, length, refl, ap, ne_eqb, arith, suc-le-suc, le_of_suc-le-suc, zero-lt-suc}
-use Rattle.edge_outside.specs.Lines.{lines_of, in_front, NoNewline}
+use Rattle.std.proofs.Common.{◌≡◌, ◌≢◌, ℕ, zero, suc, ◌<◌, List, [], ◌∷◌, ◌++◌, length, refl, ne_eqb, arith, suc-le-suc, le_of_suc-le-suc, zero-lt-suc}
+use Rattle.edge_outside.specs.Lines.{lines_of, NoNewline}
 
 pub NoNewline-nil : NoNewline []
 NoNewline-nil k lt = absurd (omega arith)

@@ -4,9 +4,8 @@ use Rattle.std.proofs.Common.{if◌then◌else◌, option_to_list}
 use Rattle.std.specs.Io.KnownBytes.{Consumes, IsAtEnd}
 use Rattle.edge_outside.specs.Lines.{lines_of, NoNewline}
 use Rattle.edge_outside.specs.Held.{Held, Cut}
-use Rattle.edge_outside.specs.Reading.{line_of, ahead_of, IsPast, Stands, Gives, StepOf, Took, weight}
+use Rattle.edge_outside.specs.Reading.{line_of, ahead_of, IsPast, Stands, StepOf, Took, weight}
 use Rattle.edge_outside.specs.declared.line_reader.LineReader.{LineReader}
-use Rattle.edge_outside.specs.declared.line_reader.LineStep.{LineStep}
 use Rattle.edge_outside.specs.declared.line_reader.LineStep.TheVariants as step
 use Rattle.edge_outside.proofs.LinesLemmas.{NoNewline-append, NoNewline-nil, NoNewline-one, lines_of-line, lines_of-last}
 
@@ -61,8 +60,8 @@ stands-cut old new left text cut aside short before =
     let line = line_of new in
     let none = NoNewline-append past line (NoNewline-past old.long past before.is_past) cut.no_newline in
     let is_text = cut-text text past old.buffer.begun old.buffer.rest cut.piece line before.source new.buffer.rest new.buffer.begun
-        (option_to_list new.aside) (before.is_text ∙ ap (λ l. past ++ ((old.buffer.begun ++ old.buffer.rest ++ option_to_list l) ++ before.source)) (sym aside))
-        cut.is_rest cut.is_line cut.is_begun in
+    (option_to_list new.aside) (before.is_text ∙ ap (λ l. past ++ ((old.buffer.begun ++ old.buffer.rest ++ option_to_list l) ++ before.source)) (sym aside))
+    cut.is_rest cut.is_line cut.is_begun in
     answered new left text old.long past line (ahead_of new ++ before.source) before.is_past refl cut.fits
     (ap lines_of is_text ∙ lines_of-line (past ++ line) (ahead_of new ++ before.source) none) (stands new left before.source short before.is_left)
 

@@ -1,11 +1,11 @@
 -- Parts of a list of bytes, as the buffer of a line reader holds them.
-use Rattle.std.proofs.Common.{◌≡◌, ℕ, zero, suc, ◌+◌, ◌-◌, ◌^◌, ◌<◌, ◌≤◌, List, [], ◌∷◌, ◌++◌, length, take, drop, get_or, slice_range, Option, Some, None, refl, sym, ap, ap₂, subst, ◌∙◌, arith, take-add, take-take, take_at, drop-drop, drop-cons, take-append-drop, length-take-le, get_or-take, eq-eqb, eqb-true, zero-le, zero-lt-suc, le_of_suc-le-suc, length-take, length-drop}
+use Rattle.std.proofs.Common.{◌≡◌, ℕ, suc, ◌+◌, ◌-◌, ◌^◌, ◌<◌, ◌≤◌, List, ◌∷◌, ◌++◌, length, take, drop, slice_range, Some, None, sym, ap, ap₂, subst, ◌∙◌, arith, take-add, take-take, take_at, drop-drop, drop-cons, take-append-drop, get_or-take, eq-eqb, eqb-true, zero-le, length-take}
 use Rattle.std.proofs.lemmas.Slice.{between_is}
 use Rattle.std.proofs.lemmas.List.{drop-take}
 use Rattle.std.proofs.lemmas.List.Edits.{between_none, length-between}
 use Rattle.memchr.specs.Find.{IsFirstByte, is_byte}
 use Rattle.edge_outside.specs.Lines.{NoNewline}
-use Rattle.edge_outside.specs.Held.{Held, Cut, Looked}
+use Rattle.edge_outside.specs.Held.{Held, Cut}
 use Rattle.edge_outside.proofs.LinesLemmas.{NoNewline-append}
 
 -- a part up to a place in it, and the part from there on
@@ -67,11 +67,11 @@ cut-found bytes line_from line_to from looked to at low high within size none fi
     let len : length rest ≡ to - looked = length-between bytes looked to within in
     let place : looked + suc at ≡ looked + at + 1 = omega arith in
     let back : drop at rest ≡ 10 ∷ slice_range bytes (looked + at + 1) to =
-        drop-cons rest at 0 found ∙ ap₂ (λ byte l. byte ∷ l) (eqb-true _ 10 first.1)
-        (drop-slice_range bytes looked to (suc at) (omega arith) ∙ ap (λ n. slice_range bytes n to) place) in
+    drop-cons rest at 0 found ∙ ap₂ (λ byte l. byte ∷ l) (eqb-true _ 10 first.1)
+    (drop-slice_range bytes looked to (suc at) (omega arith) ∙ ap (λ n. slice_range bytes n to) place) in
     let line : slice_range bytes from (looked + at) ≡ slice_range bytes from looked ++ take at rest =
-        slice_range-split bytes from looked (looked + at) low (omega arith)
-        ∙ ap (λ l. slice_range bytes from looked ++ l) (sym (take-slice_range bytes looked to at (omega arith))) in
+    slice_range-split bytes from looked (looked + at) low (omega arith)
+    ∙ ap (λ l. slice_range bytes from looked ++ l) (sym (take-slice_range bytes looked to at (omega arith))) in
     let fits : length (slice_range bytes from (looked + at)) ≡ looked + at - from = length-between bytes from (looked + at) (omega arith) in
     record {
       piece = take at rest;

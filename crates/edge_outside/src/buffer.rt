@@ -31,9 +31,9 @@ impl Model for Buffer {
     ghost Value = { Held };
 
     ghost view = { λ buffer. record {
-        line = slice_range buffer.bytes.items buffer.line_from buffer.line_to;
-        begun = slice_range buffer.bytes.items buffer.from buffer.looked;
-        rest = slice_range buffer.bytes.items buffer.looked buffer.to
+      line = slice_range buffer.bytes.items buffer.line_from buffer.line_to;
+      begun = slice_range buffer.bytes.items buffer.from buffer.looked;
+      rest = slice_range buffer.bytes.items buffer.looked buffer.to;
     } };
 
     ghost invariant = { λ buffer. (vec_len buffer.bytes ≡ 2 ^ 20)

@@ -1,4 +1,4 @@
-use Rattle.std.proofs.Common.{◌≡◌, ◌≢◌, ◌⊎◌, ℕ, List, inl, inr, [], true, refl, sym, ap, subst, ◌∙◌, ◌^◌, ◌≤◌, length}
+use Rattle.std.proofs.Common.{◌≡◌, ◌≢◌, ◌⊎◌, ℕ, List, inl, inr, [], true, sym, ap, subst, ◌∙◌, ◌^◌, ◌≤◌, length}
 use Rattle.edge_outside.specs.Held.{Held}
 use Rattle.edge_outside.specs.Lines.{NoNewline}
 use Rattle.edge_outside.specs.Reading.{line_of, StepOf}
@@ -20,8 +20,8 @@ returns-clause-lines c left text end before =
     let buffer = ap (λ (r : LineReader). r.buffer) after ∙ whole in
     let line : line_of new ≡ old.buffer.begun = ap (λ (h : Held). h.line) buffer in
     let some : (old.buffer.begun ≢ []) ⊎ (old.long ≡ true) = elim c.else-bare.branch [
-      else-bare-via-then-bare+else-not-self w ↦ inr w.if-not-self.false
-    | else-bare-via-else-bare w ↦ inl (λ e. let bare = c.is_bare-bare.ensures.1 e in let other = w.if-bare.false in cc)
+      | else-bare-via-then-bare+else-not-self w ↦ inr w.if-not-self.false
+      | else-bare-via-else-bare w ↦ inl (λ e. let bare = c.is_bare-bare.ensures.1 e in let other = w.if-bare.false in cc)
     ] in
     subst (λ step. StepOf step new left text) (sym c.answer.ensures.step)
     (stands-last old new left text end c.requires.0 c.requires.1 line

@@ -32,7 +32,7 @@ pub returns-in-Ok-eq0-clause-lines : goal.returns-in-Ok-eq0-clause-lines
 returns-in-Ok-eq0-clause-lines g c text before =
     let took = c.read_on.ensures.took in
     let stands = stands-took c.look.new.self c.read_on.new.self _ _ took.0 text took.1 took.2
-        (c.in_default.ensures.none _ text (c.reading.invariant.lines text before)) in
+    (c.in_default.ensures.none _ text (c.reading.invariant.lines text before)) in
     c.finish.ensures.lines _ text (c.in-Ok-eq0.ensures.end c.in-Ok-eq0.field-0-test).0 stands
 
 pub returns-in-Ok-eq0-clause-taken : goal.returns-in-Ok-eq0-clause-taken
