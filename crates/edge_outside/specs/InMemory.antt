@@ -1,5 +1,5 @@
 -- A source and a sink in memory as contracts see them, and what each call makes of them.
-use Rattle.std.specs.Prelude.{◌≡◌, ℕ, ◌+◌, ◌-◌, List, ◌++◌, length, take, drop, min}
+use Rattle.std.specs.Prelude.{ℕ, ◌-◌, List, ◌++◌, length, take, drop, min}
 use Rattle.edge_outside.specs.Faults.{next_count}
 
 -- a source over a text: what was taken and what is left of it, the most that a read moves, the numbers of the reads

@@ -1,5 +1,5 @@
 -- What a line reader stands for, and what each of its steps says of the text before it.
-use Rattle.std.specs.Prelude.{◌≡◌, ℕ, ◌+◌, ◌-◌, ◌^◌, ◌<◌, ◌≤◌, Bool, true, false, List, [], ◌∷◌, ◌++◌, length, Option, Some}
+use Rattle.std.specs.Prelude.{◌≡◌, ℕ, ◌+◌, ◌-◌, ◌^◌, ◌<◌, ◌≤◌, Bool, true, false, List, [], ◌∷◌, ◌++◌, length, Option, Some, None}
 use Rattle.std.specs.Prelude.{option_to_list, if◌then◌else◌}
 use Rattle.edge_outside.specs.Lines.{lines_of, NoNewline}
 use Rattle.edge_outside.specs.declared.line_reader.LineReader.{LineReader}
@@ -40,6 +40,16 @@ StepOf step.Long reader left text = (line : List ℕ) × (2 ^ 20 < length line) 
 StepOf step.End reader left text = (text ≡ []) × Stands reader left []
 StepOf step.Fault reader left text = Stands reader left text
 StepOf step.LongInput reader left text = Stands reader left text
+
+-- the reader took these bytes, and gave and passed nothing
+pub record Took (before now : LineReader) (bytes : List ℕ) : Type 0 where
+  pub is_ahead : ahead_of now ≡ ahead_of before ++ bytes
+  pub is_long : now.long ≡ before.long
+  pub is_taken : now.taken ≡ before.taken + length bytes
+
+-- all that was taken was looked at
+abbrev pub IsLooked : LineReader → Type 0
+IsLooked reader = (reader.buffer.rest ≡ []) × (reader.aside ≡ None)
 
 -- how many lines the reader can still give, at most: the bytes not yet taken, those taken and not given, and one for a
 -- line that is read past

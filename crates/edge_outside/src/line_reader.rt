@@ -1,7 +1,4 @@
-ghost use Rattle.std.specs.Prelude.{◌≡◌, ◌↔◌, ℕ, List, [], ◌∷◌, ◌++◌, ◌+◌, ◌-◌, ◌^◌, ◌<◌, ◌≤◌, ◌⊎◌, length, Option, Some, None, IfOk, OnErr, MatchOption, ⊤};
-ghost use Rattle.std.specs.Io.KnownBytes.{Appends, Consumes, ConsumesCount};
-ghost use Rattle.edge_outside.specs.Faults.{Rose};
-ghost use Rattle.edge_outside.specs.Reading.{line_of, ahead_of, Stands, StepOf, weight};
+ghost use Rattle.std.specs.Prelude.{◌≡◌, ◌^◌, ◌≤◌, length, IsSome};
 
 use crate::buffer::Buffer;
 use crate::failure::Failed;
@@ -37,10 +34,15 @@ pub struct LineReader {
     long: bool,
     taken: u64,
     ghost limited: { taken ≤ 2 ^ 40 },
-    ghost full: { MatchOption aside ⊤ (λ _. length buffer.begun + length buffer.rest ≡ 2 ^ 20) },
+    ghost full: { IsSome aside → (2 ^ 20 ≤ length buffer.begun) × (length buffer.rest ≡ 0) },
 }
 
 impl LineReader {
+    ghost use Rattle.std.specs.Prelude.{◌≡◌, ◌≢◌, ◌↔◌, ℕ, List, ◌+◌, ◌^◌, ◌<◌, ◌≤◌, ◌⊎◌, true, false, if◌then◌else◌, length, Option, Some, None, IfOk, OnErr, IfSome, IfNone, OnSome};
+    ghost use Rattle.std.specs.Io.KnownBytes.{Appends, Consumes, IsAtEnd};
+    ghost use Rattle.edge_outside.specs.Faults.{Rose};
+    ghost use Rattle.edge_outside.specs.Reading.{line_of, Stands, StepOf, Took, IsLooked, weight};
+
     /// Takes a buffer of 1 MiB.
     pub fn new(alloc: Global) -> Result<LineReader, Memory>
         ensures stands { IfOk result (λ reader. (text : List ℕ) → Stands reader (Some text) text) }
@@ -61,6 +63,110 @@ impl LineReader {
         ensures { result.now ≡ line_of self.now }
     {
         self.buffer.line()
+    }
+
+    /// The answer to a line that was cut: it is long where its front was read past.
+    fn answer(&mut self) -> LineStep
+        ensures step { result ≡ (if self.old.long then LineStep.Long else LineStep.Line) }
+        ensures after { self.new ≡ record self.old { long = false } }
+    {
+        if self.long {
+            self.long = false;
+            LineStep::Long
+        } else {
+            LineStep::Line
+        }
+    }
+
+    /// Gives the next line where it ends in what was taken. Where it doesn't, all that was taken was looked at.
+    fn look(&mut self) -> Option<LineStep>
+        ensures found { IfSome result (λ step. (left : Option (List ℕ)) (text : List ℕ)
+            → Stands self.old left text → StepOf step self.new left text) }
+        ensures none { IfNone result ((left : Option (List ℕ)) (text : List ℕ)
+            → Stands self.old left text → Stands self.new left text) }
+        ensures looked { IfNone result (IsLooked self.new) }
+        ensures variant { IfSome result (λ step. (step ≡ LineStep.Line) ⊎ (step ≡ LineStep.Long)) }
+        ensures taken { self.new.taken ≡ self.old.taken }
+        ensures progress { OnSome result (weight self.new < weight self.old) }
+        ensures weight { weight self.new ≤ weight self.old }
+    {
+        if self.buffer.cut() {
+            return Some(self.answer());
+        }
+        match self.aside {
+            None => None,
+            Some(byte) => {
+                self.aside = None;
+                self.buffer.cut_begun();
+                if byte == b'\n' {
+                    return Some(self.answer());
+                }
+                self.long = true;
+                None
+            }
+        }
+    }
+
+    /// Gives the last line, which lacks a newline, or answers the end.
+    fn finish(&mut self) -> LineStep
+        requires { IsLooked self.old }
+        ensures lines { (left : Option (List ℕ)) (text : List ℕ) → IsAtEnd left
+            → Stands self.old left text → StepOf result self.new left text }
+        ensures variant { (result ≢ LineStep.Fault) × (result ≢ LineStep.LongInput) }
+        ensures taken { self.new.taken ≡ self.old.taken }
+        ensures progress { (result ≡ LineStep.Line) ⊎ (result ≡ LineStep.Long) → weight self.new < weight self.old }
+    {
+        let bare = self.buffer.is_bare();
+        if bare && !self.long {
+            return LineStep::End;
+        }
+        self.buffer.cut_begun();
+        self.answer()
+    }
+
+    /// Reads one byte behind a full buffer.
+    fn read_aside<S: Source>(&mut self, source: &mut S) -> Result<usize, Failed>
+        requires looked { IsLooked self.old }
+        requires full { 2 ^ 20 ≤ length self.old.buffer.begun }
+        requires limit { self.old.taken < 2 ^ 40 }
+        ensures took { (bytes : List ℕ) × Took self.old self.new bytes
+            × Consumes (S.left source.old) (S.left source.new) bytes
+            × Appends (S.taken source.old) (S.taken source.new) bytes
+            × IfOk result (λ count. length bytes ≡ count) }
+        ensures end { IfOk result (λ count. count ≡ 0 → IsAtEnd (S.left source.new) × IsLooked self.new) }
+        ensures err { OnErr result (self.new.taken ≡ self.old.taken) }
+        ensures failed { OnErr result (Rose (S.faults source.old) (S.faults source.new)) }
+        ensures later { S.faults source.old ≤ S.faults source.new }
+    {
+        let mut byte = [0];
+        let count = source.read(&mut byte)?;
+        if 0 < count {
+            self.aside = Some(byte[0]);
+            self.taken += 1;
+        }
+        Ok(count)
+    }
+
+    /// Takes more from the source.
+    fn read_on<S: Source>(&mut self, source: &mut S) -> Result<usize, Failed>
+        requires looked { IsLooked self.old }
+        requires limit { self.old.taken < 2 ^ 40 }
+        ensures took { (bytes : List ℕ) × Took self.old self.new bytes
+            × Consumes (S.left source.old) (S.left source.new) bytes
+            × Appends (S.taken source.old) (S.taken source.new) bytes
+            × IfOk result (λ count. length bytes ≡ count) }
+        ensures end { IfOk result (λ count. count ≡ 0 → IsAtEnd (S.left source.new) × IsLooked self.new) }
+        ensures err { OnErr result (self.new.taken ≡ self.old.taken) }
+        ensures failed { OnErr result (Rose (S.faults source.old) (S.faults source.new)) }
+        ensures later { S.faults source.old ≤ S.faults source.new }
+    {
+        if self.buffer.is_full() {
+            return self.read_aside(source);
+        }
+        let most = INPUT_MAX - self.taken;
+        let count = self.buffer.fill(source, most as usize)?;
+        self.taken += count as u64;
+        Ok(count)
     }
 
     /// Reads on to the next line. Takes no memory.

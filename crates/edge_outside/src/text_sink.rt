@@ -31,12 +31,12 @@ impl Model for TextSink {
     ghost Value = { Store };
 
     ghost view = { λ sink. record {
-        got = sink.bytes.items;
-        room = sink.room;
-        piece = sink.piece;
-        fail_at = sink.fail_at;
-        calls = sink.calls;
-        faults = sink.faults
+      got = sink.bytes.items;
+      room = sink.room;
+      piece = sink.piece;
+      fail_at = sink.fail_at;
+      calls = sink.calls;
+      faults = sink.faults;
     } };
 
     ghost invariant = { λ sink. (vec_len sink.bytes + sink.room ≤ vec_capacity sink.bytes) × (1 ≤ sink.piece) };
@@ -45,7 +45,12 @@ impl Model for TextSink {
 impl TextSink {
     /// A sink with room for this many bytes, that takes at most `piece` of them in a write, and whose writes of these
     /// numbers, from 0, fail.
-    pub fn new(alloc: Global, room: usize, piece: usize, fail_at: Numbers) -> Result<TextSink, Memory>
+    pub fn new(
+        alloc: Global,
+        room: usize,
+        piece: usize,
+        fail_at: Numbers,
+    ) -> Result<TextSink, Memory>
         requires { 1 ≤ piece }
         ensures { IfOk result (λ sink. sink ≡ record { got = []; room = room; piece = piece; fail_at = fail_at; calls = 0; faults = 0 }) }
     {

@@ -32,12 +32,12 @@ impl Model for TextSource {
     ghost Value = { Supply };
 
     ghost view = { λ source. record {
-        taken = take source.at source.bytes;
-        left = drop source.at source.bytes;
-        piece = source.piece;
-        fail_at = source.fail_at;
-        calls = source.calls;
-        faults = source.faults
+      taken = take source.at source.bytes;
+      left = drop source.at source.bytes;
+      piece = source.piece;
+      fail_at = source.fail_at;
+      calls = source.calls;
+      faults = source.faults;
     } };
 
     ghost invariant = { λ source. (source.at ≤ length source.bytes) × (1 ≤ source.piece) };

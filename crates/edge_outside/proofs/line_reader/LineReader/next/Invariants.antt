@@ -1,0 +1,18 @@
+use Rattle.std.proofs.Common.{◌≡◌, ℕ, ◌+◌, ◌-◌, ◌^◌, ◌≤◌, List, length}
+use Rattle.std.specs.Io.KnownBytes.{Appends, Consumes}
+use Rattle.edge_outside.specs.Reading.{Stands, weight}
+use Rattle.edge_outside.proofs.line_reader.LineReader.next.Given as goal
+
+-- the reader stands before the same text, and has only taken bytes
+abbrev pub invariant-reading : goal.invariant-reading
+invariant-reading g l = record {
+  lines : (text : List ℕ) → Stands l.fn.self (g.S.Source.left l.fn.source) text → Stands l.self (g.S.Source.left l.source) text;
+  later : g.S.Source.faults l.fn.source ≤ g.S.Source.faults l.source;
+  taken : (bytes : List ℕ) × Consumes (g.S.Source.left l.fn.source) (g.S.Source.left l.source) bytes
+      × Appends (g.S.Source.taken l.fn.source) (g.S.Source.taken l.source) bytes
+      × (l.self.taken ≡ l.fn.self.taken + length bytes);
+  weight : weight l.self ≤ weight l.fn.self;
+}
+
+abbrev pub decreases-reading : goal.decreases-reading
+decreases-reading g l = 2 ^ 40 - l.self.taken
