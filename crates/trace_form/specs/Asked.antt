@@ -1,17 +1,16 @@
 -- The request that an object of a line tells.
-use Rattle.std.specs.Prelude.{◌≡◌, ℕ, ◌^◌, Bool, true, false, ◌&&◌, not, ◌==◌, nat_lt, nat_le, List, [], ◌∷◌, length, codes, Option, Some, None, option_and_then, option_map}
+use Rattle.std.specs.Prelude.{◌≡◌, ℕ, ◌^◌, Bool, true, false, ◌&&◌, not, ◌==◌, nat_lt, nat_le, cond, List, [], ◌∷◌, length, codes, Option, Some, None, option_and_then, option_map}
 use Rattle.std.specs.Bool.{then_some}
-use Rattle.std.specs.Option.{option_map_or}
 use Rattle.std.specs.List.{list_all}
 use Rattle.serde_json.specs.Data.{Data, Items, no_items, item}
-use Rattle.serde_json.specs.Find.{get, at as element, as_str, as_number, as_u64, as_array}
+use Rattle.serde_json.specs.Find.{get, at as element, as_str, as_number, as_u64}
 use Rattle.serde_json.specs.Events.{items_len}
 use Rattle.edge_base.specs.declared.message.Header.{Header}
 use Rattle.edge_base.specs.declared.message.Request.{Request}
 use Rattle.edge_base.specs.declared.address.Addr.{Addr}
 use Rattle.edge_base.specs.declared.address.Addr.TheVariants as addr
 use Rattle.edge_base.specs.Address.{IsAddrText}
-use Rattle.trace_form.specs.Members.{has_members, text_of, is_token}
+use Rattle.trace_form.specs.Members.{has_members, has_items, text_of, array_of, is_token}
 
 -- when it came: an integer from 0 to 2^53
 abbrev pub moment_of : Data → Option ℕ
@@ -29,9 +28,13 @@ is_method text = nat_le (length text) 32 && is_token text
 abbrev pub method_of : Data → Option (List ℕ)
 method_of value = option_and_then (λ text. then_some (is_method text) text) (text_of (codes "method") value)
 
--- 1 to 16,384 bytes, none up to the blank and none 0x7F
+-- a byte above the blank, and not 0x7F
+abbrev pub is_target_byte : ℕ → Bool
+is_target_byte byte = nat_lt 32 byte && not (byte == 127)
+
+-- 1 to 16,384 such bytes
 abbrev pub is_target : List ℕ → Bool
-is_target text = nat_lt 0 (length text) && nat_le (length text) 16384 && list_all (λ byte. nat_lt 32 byte && not (byte == 127)) text
+is_target text = nat_lt 0 (length text) && nat_le (length text) 16384 && list_all is_target_byte text
 
 abbrev pub target_of : Data → Option (List ℕ)
 target_of value = option_and_then (λ text. then_some (is_target text) text) (text_of (codes "target") value)
@@ -42,11 +45,11 @@ is_header_value text = list_all (λ byte. not (byte == 13) && not (byte == 10) &
 
 -- the two texts of an array that has two elements
 abbrev pub pair_of : Data → Option (List ℕ × List ℕ)
-pair_of value = option_and_then
-    (λ name. option_and_then
-        (λ text. then_some (option_map_or (λ items. items_len items == 2) (as_array value) false) (name, text))
-        (option_and_then as_str (element 1 value)))
-    (option_and_then as_str (element 0 value))
+pair_of value = cond (has_items 2 value)
+    (option_and_then
+        (λ name. option_map (λ text. (name, text)) (option_and_then as_str (element 1 value)))
+        (option_and_then as_str (element 0 value)))
+    None
 
 abbrev pub header_from : List ℕ → List ℕ → Header
 header_from name value = record { name = name; value = value }
@@ -63,8 +66,8 @@ headers_from (item value values) = option_and_then (λ header. option_map (λ he
 -- the headers: an array of at most 100 of them
 abbrev pub headers_of : Data → Option (List Header)
 headers_of value = option_and_then
-    (λ items. option_and_then headers_from (then_some (nat_le (items_len items) 100) items))
-    (option_and_then as_array (get (codes "headers") value))
+    (λ items. cond (nat_le (items_len items) 100) (headers_from items) None)
+    (array_of (codes "headers") value)
 
 -- the value is an object of the five members of a request, and this is the request
 pub record IsRequest (value : Data) (request : Request) : Type 0 where

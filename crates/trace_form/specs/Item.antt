@@ -1,5 +1,5 @@
 -- What one line of a trace is: blank, a deployment, a request, or no item.
-use Rattle.std.specs.Prelude.{◌≡◌, ℕ, Bool, true, ◌||◌, ◌==◌, nat_le, cond, List, length, codes, Option, Some, None, IsUtf8}
+use Rattle.std.specs.Prelude.{◌≡◌, ℕ, Bool, true, false, ◌||◌, ◌==◌, nat_le, cond, List, length, codes, Option, Some, None, IsUtf8}
 use Rattle.std.specs.List.{list_all}
 use Rattle.serde_json.specs.Data.{Data}
 use Rattle.serde_json.specs.Read.{read}
@@ -31,16 +31,18 @@ deployed_of value = cond (has_members 1 value) (get (codes "deploy") value) None
 abbrev pub IsBlank : List ℕ → Type 0
 IsBlank line = (is_short line ≡ true) × (is_blank line ≡ true)
 
--- the line is a deployment of this value
+-- the line isn't blank, and is a deployment of this value
 pub record IsDeploy (line : List ℕ) (deployed : Data) : Type 0 where
   pub short : is_short line ≡ true
+  pub solid : is_blank line ≡ false
   pub value : Data
   pub json : IsJson line value
   pub deploy : deployed_of value ≡ Some deployed
 
--- the line is this request
+-- the line isn't blank, and is this request
 pub record IsAsk (line : List ℕ) (request : Request) : Type 0 where
   pub short : is_short line ≡ true
+  pub solid : is_blank line ≡ false
   pub value : Data
   pub json : IsJson line value
   pub ask : IsRequest value request
@@ -56,6 +58,11 @@ abbrev pub IsValueItem : Data → LineItem → Type 0
 IsValueItem value (lineitem.Deploy deployed) = deployed_of value ≡ Some (view deployed)
 IsValueItem value (lineitem.Ask recorded) = IsRequest value recorded.request × (recorded.reply ≡ None)
 IsValueItem value lineitem.Blank = ⊥
+
+-- the value is neither a deployment nor a request
+pub record IsNoValueItem (value : Data) : Type 0 where
+  pub not_deploy : deployed_of value ≡ None
+  pub not_ask : (request : Request) → ¬ (IsRequest value request)
 
 -- the line is this item; no reply is recorded
 abbrev pub IsItem : List ℕ → LineItem → Type 0

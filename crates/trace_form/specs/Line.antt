@@ -41,11 +41,14 @@ location_text (kind.Block response) = []
 location_text kind.Challenge = []
 location_text (kind.Redirect status target) = codes " to=" ++ escaped target
 
--- the line of a judged request
+-- which request was judged by which version, and how: the number, the version, the kind, the ending rule, the target
+unfoldable pub judged_text : LineParts → List ℕ
+judged_text parts = decimal parts.number ++ codes " v" ++ decimal parts.version ++ codes " " ++ kind_text parts.verdict.kind
+    ++ codes " " ++ ending_text parts.verdict.rule ++ codes " " ++ escaped parts.request.target
+
+-- the line of a judged request; nothing was counted
 unfoldable pub line : LineParts → List ℕ
-line parts = decimal parts.number ++ codes " v" ++ decimal parts.version ++ codes " " ++ kind_text parts.verdict.kind
-    ++ codes " " ++ ending_text parts.verdict.rule ++ codes " " ++ escaped parts.request.target ++ codes " -"
-    ++ noted_text parts.verdict.noted ++ location_text parts.verdict.kind ++ 10 ∷ []
+line parts = judged_text parts ++ codes " -" ++ noted_text parts.verdict.noted ++ location_text parts.verdict.kind ++ 10 ∷ []
 
 -- the line of a deployment that was put in force as this version
 abbrev pub deploy_line : ℕ → List ℕ

@@ -2,7 +2,7 @@ ghost use Rattle.std.specs.Prelude.{◌≡◌, option_map, IfOk};
 ghost use Rattle.serde_json.specs.View.{view, items_view};
 ghost use Rattle.trace_form.specs.Asked.{is_header_value, pair_of, header_of, headers_from, headers_of};
 
-use crate::members::is_token;
+use crate::members::{array_of, count_of, has_items, is_token};
 use edge_base::{Header, Headers, Memory, Text};
 use serde_json::Value;
 use std::alloc::Global;
@@ -21,10 +21,12 @@ fn is_header_value(text: &[u8]) -> bool
 fn pair_of(value: &Value) -> Option<(&[u8], &[u8])>
     ensures { option_map (λ pair. (pair.0.now, pair.1.now)) result ≡ pair_of (view value.now) }
 {
-    let count = value.as_array()?.len();
+    if !has_items(value, 2) {
+        return None;
+    }
     let name = value.get(0)?.as_str()?;
     let text = value.get(1)?.as_str()?;
-    if count == 2 { Some((name.as_bytes(), text.as_bytes())) } else { None }
+    Some((name.as_bytes(), text.as_bytes()))
 }
 
 /// The header that a pair stands for.
@@ -61,11 +63,11 @@ fn headers_from(alloc: Global, values: &[Value]) -> Result<Option<Headers>, Memo
 pub(crate) fn headers_of(alloc: Global, value: &Value) -> Result<Option<Headers>, Memory>
     ensures { IfOk result (λ found. found ≡ headers_of (view value.now)) }
 {
-    let Some(pairs) = value.get("headers").and_then(Value::as_array) else {
+    let Some(pairs) = array_of(value, "headers") else {
         return Ok(None);
     };
-    if pairs.len() <= MAX_HEADERS {
-        headers_from(alloc, pairs.as_slice())
+    if count_of(pairs) <= MAX_HEADERS {
+        headers_from(alloc, pairs)
     } else {
         Ok(None)
     }

@@ -1,5 +1,5 @@
 ghost use Rattle.std.specs.Prelude.{◌≡◌, ◌++◌, IfOk, OnOk};
-ghost use Rattle.trace_form.specs.Line.{rule_text, ending_text, names_text, noted_text, kind_text, location_text, line, deploy_line, bad_line};
+ghost use Rattle.trace_form.specs.Line.{rule_text, ending_text, names_text, noted_text, kind_text, location_text, judged_text, line, deploy_line, bad_line};
 
 use crate::refusal::BadCause;
 use crate::verdict::{Verdict, VerdictKind};
@@ -93,24 +93,31 @@ fn push_location(out: &mut TextBuilder, kind: &VerdictKind) -> Result<(), Memory
     }
 }
 
+/// How a request was judged, up to its target.
+#[tactic(auto, unfolding(crate::specs::Line::judged_text))]
+fn push_judged(out: &mut TextBuilder, alloc: Global, parts: &LineParts) -> Result<(), Memory>
+    ensures { OnOk result (out.new ≡ out.old ++ judged_text parts.now) }
+{
+    out.push_number(alloc, parts.number)?;
+    out.push(b" v")?;
+    out.push_number(alloc, parts.version)?;
+    out.push(b" ")?;
+    push_kind(out, alloc, &parts.verdict.kind)?;
+    out.push(b" ")?;
+    push_ending(out, &parts.verdict.rule)?;
+    out.push(b" ")?;
+    out.push_escaped(parts.request.target.bytes())
+}
+
 /// Writes the line of a judged request.
 #[tactic(auto, unfolding(crate::specs::Line::line))]
 pub fn push_line(out: &mut TextBuilder, alloc: Global, parts: &LineParts) -> Result<(), Memory>
     ensures { OnOk result (out.new ≡ out.old ++ line parts.now) }
 {
-    let verdict = &parts.verdict;
-    out.push_number(alloc, parts.number)?;
-    out.push(b" v")?;
-    out.push_number(alloc, parts.version)?;
-    out.push(b" ")?;
-    push_kind(out, alloc, &verdict.kind)?;
-    out.push(b" ")?;
-    push_ending(out, &verdict.rule)?;
-    out.push(b" ")?;
-    out.push_escaped(parts.request.target.bytes())?;
+    push_judged(out, alloc, parts)?;
     out.push(b" -")?;
-    push_noted(out, verdict.noted.as_slice())?;
-    push_location(out, &verdict.kind)?;
+    push_noted(out, parts.verdict.noted.as_slice())?;
+    push_location(out, &parts.verdict.kind)?;
     out.push(b"\n")
 }
 

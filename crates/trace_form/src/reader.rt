@@ -2,7 +2,7 @@ ghost use Rattle.std.specs.Prelude.{◌≡◌, ◌↔◌, option_map, IfOk, IfEr
 ghost use Rattle.serde_json.specs.Data.{Data};
 ghost use Rattle.serde_json.specs.Errors.{IsMemory};
 ghost use Rattle.serde_json.specs.View.{view};
-ghost use Rattle.trace_form.specs.Item.{is_short, is_blank, IsJson, deployed_of, IsItem, IsNoItem, IsValueItem};
+ghost use Rattle.trace_form.specs.Item.{is_short, is_blank, IsJson, deployed_of, IsItem, IsNoItem, IsValueItem, IsNoValueItem};
 
 use crate::item::{LineItem, Recorded};
 use crate::members::has_members;
@@ -60,7 +60,7 @@ fn deployed_of(value: &Value) -> Option<&Value>
 /// The item that a value is.
 fn item_of(alloc: Global, value: &Value) -> Result<LineItem, LineFault>
     ensures ok { IfOk result (λ item. IsValueItem (view value.now) item) }
-    ensures bad { IsErrOf result (LineFault.Bad BadCause.Unsupported) → (item : LineItem) → ¬ (IsValueItem (view value.now) item) }
+    ensures bad { IsErrOf result (LineFault.Bad BadCause.Unsupported) → IsNoValueItem (view value.now) }
 {
     if let Some(deployed) = deployed_of(value) {
         return Ok(LineItem::Deploy(deployed.clone()?));

@@ -1,8 +1,9 @@
 ghost use Rattle.std.specs.Prelude.{◌≡◌, option_map, IfOk, MatchOption};
+ghost use Rattle.std.specs.List.{list_all};
 ghost use Rattle.serde_json.specs.View.{view};
 ghost use Rattle.edge_base.specs.declared.message.Request.{Request};
 ghost use Rattle.edge_base.specs.declared.address.Addr.{Addr};
-ghost use Rattle.trace_form.specs.Asked.{is_method, is_target, moment_of, IsPeer, method_of, target_of, IsRequest};
+ghost use Rattle.trace_form.specs.Asked.{is_method, is_target_byte, is_target, moment_of, IsPeer, method_of, target_of, IsRequest};
 
 use crate::headers::headers_of;
 use crate::members::{has_members, is_token, text_of};
@@ -21,10 +22,16 @@ fn is_method(text: &[u8]) -> bool
     text.len() <= MAX_METHOD && is_token(text)
 }
 
+fn are_target_bytes(text: &[u8]) -> bool
+    ensures { result ≡ list_all is_target_byte text.now }
+{
+    text.iter().all(|&byte| 32 < byte && byte != 127)
+}
+
 fn is_target(text: &[u8]) -> bool
     ensures { result ≡ is_target text.now }
 {
-    !text.is_empty() && text.len() <= MAX_TARGET && text.iter().all(|&byte| 32 < byte && byte != 127)
+    0 < text.len() && text.len() <= MAX_TARGET && are_target_bytes(text)
 }
 
 /// When the request came.
