@@ -39,9 +39,10 @@ request-of_line line value request json a =
 
 pub value-no_item : (line : List ℕ) (value : Data) → is_blank line ≡ false → IsJson line value → IsNoValueItem value → IsNoItem line
 value-no_item line value solid json none = record {
-    not_blank = λ blank. both_ways (is_blank line) solid blank.1;
-    not_deploy = λ deployed d. none-some deployed (sym none.not_deploy ∙ deployed-of_line line value deployed json d);
-    not_ask = λ request a. none.not_ask request (request-of_line line value request json a) }
+  not_blank = λ blank. both_ways (is_blank line) solid blank.1;
+  not_deploy = λ deployed d. none-some deployed (sym none.not_deploy ∙ deployed-of_line line value deployed json d);
+  not_ask = λ request a. none.not_ask request (request-of_line line value request json a);
+}
 
 -- ---- at most one kind, and one value
 
@@ -112,7 +113,6 @@ whole_ipv4 : (text : List ℕ) (a : Ipv4Addr) → IsIpv4Text text a → read_ipv
 whole_ipv4 text a is_text =
     subst (λ whole. read_ipv4 whole ≡ Some (ipv4_octets a, [])) (append-nil text) (read_ipv4_complete text (ipv4_octets a) [] is_text (lit≤ tt))
 
-
 none-ipv4 : (text : List ℕ) (found : Option (List ℕ × List ℕ)) → read_ipv4 text ≡ found → ((octets : List ℕ) → ¬ (found ≡ Some (octets, []))) → Found (IsIpv4Text text)
 none-ipv4 text found is_found none = inr (λ a is_text. none (ipv4_octets a) (sym is_found ∙ whole_ipv4 text a is_text))
 
@@ -137,6 +137,7 @@ found-peer value = of_text (text_of (codes "ip") value) refl where
     not_peer : (peer : Addr) → ¬ (IsPeer value peer)
     not_peer (addr.V4 n) is_n = none is_n.2.0 (subst (λ t. IsIpv4Text t is_n.2.0) (same_Some is_n.0 text (sym is_n.1 ∙ is_text)) is_n.2.1)
     not_peer (addr.V6 n) is_n = is_n
+
   of_text : (text : Option (List ℕ)) → text_of (codes "ip") value ≡ text → Found (IsPeer value)
   of_text None is_none = inr (λ peer. not_peer peer) where
     not_peer : (peer : Addr) → ¬ (IsPeer value peer)
@@ -185,15 +186,17 @@ kind-of_json : (line : List ℕ) → is_short line ≡ true → is_blank line �
 kind-of_json line short solid (inl (value, json)) =
     kind-of_value line value short solid json (deployed_of value) refl (found-request value)
 kind-of_json line short solid (inr none) = no_item (record {
-    not_blank = λ blank. both_ways (is_blank line) solid blank.1;
-    not_deploy = λ deployed d. none d.value d.json;
-    not_ask = λ request a. none a.value a.json })
+  not_blank = λ blank. both_ways (is_blank line) solid blank.1;
+  not_deploy = λ deployed d. none d.value d.json;
+  not_ask = λ request a. none a.value a.json;
+})
 
 kind-of_tests : (line : List ℕ) (short blank : Bool) → is_short line ≡ short → is_blank line ≡ blank → Kind line
 kind-of_tests line false b is_long is_b = no_item (record {
-    not_blank = λ h. both_ways (is_short line) is_long h.0;
-    not_deploy = λ deployed d. both_ways (is_short line) is_long d.short;
-    not_ask = λ request a. both_ways (is_short line) is_long a.short })
+  not_blank = λ h. both_ways (is_short line) is_long h.0;
+  not_deploy = λ deployed d. both_ways (is_short line) is_long d.short;
+  not_ask = λ request a. both_ways (is_short line) is_long a.short;
+})
 kind-of_tests line true true short is_b = blank (short, is_b)
 kind-of_tests line true false short solid = kind-of_json line short solid (found-json line)
 

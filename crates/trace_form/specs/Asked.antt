@@ -47,8 +47,8 @@ is_header_value text = list_all (λ byte. not (byte == 13) && not (byte == 10) &
 abbrev pub pair_of : Data → Option (List ℕ × List ℕ)
 pair_of value = cond (has_items 2 value)
     (option_and_then
-        (λ name. option_map (λ text. (name, text)) (option_and_then as_str (element 1 value)))
-        (option_and_then as_str (element 0 value)))
+    (λ name. option_map (λ text. (name, text)) (option_and_then as_str (element 1 value)))
+    (option_and_then as_str (element 0 value)))
     None
 
 abbrev pub header_from : List ℕ → List ℕ → Header

@@ -14,7 +14,8 @@ const MAX_HEADERS: usize = 100;
 fn is_header_value(text: &[u8]) -> bool
     ensures { result ≡ is_header_value text.now }
 {
-    text.iter().all(|&byte| byte != b'\r' && byte != b'\n' && byte != 0)
+    text.iter()
+        .all(|&byte| byte != b'\r' && byte != b'\n' && byte != 0)
 }
 
 /// The two texts of a pair.

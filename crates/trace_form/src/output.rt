@@ -131,7 +131,12 @@ pub fn push_deploy_line(out: &mut TextBuilder, alloc: Global, version: u64) -> R
 }
 
 /// Writes the line of an input line that is no item.
-pub fn push_bad_line(out: &mut TextBuilder, alloc: Global, number: u64, cause: BadCause) -> Result<(), Memory>
+pub fn push_bad_line(
+    out: &mut TextBuilder,
+    alloc: Global,
+    number: u64,
+    cause: BadCause,
+) -> Result<(), Memory>
     ensures { OnOk result (out.new ≡ out.old ++ bad_line number cause) }
 {
     out.push(b"bad ")?;

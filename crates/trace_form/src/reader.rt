@@ -24,7 +24,8 @@ fn is_short(line: &[u8]) -> bool
 fn is_blank(line: &[u8]) -> bool
     ensures { result ≡ is_blank line.now }
 {
-    line.iter().all(|&byte| byte == b' ' || byte == b'\t' || byte == b'\r')
+    line.iter()
+        .all(|&byte| byte == b' ' || byte == b'\t' || byte == b'\r')
 }
 
 /// What a failed read of a line says of the line.
@@ -54,7 +55,11 @@ fn value_of(alloc: Global, line: &[u8]) -> Result<Value, LineFault>
 fn deployed_of(value: &Value) -> Option<&Value>
     ensures { option_map (λ deployed. view deployed.now) result ≡ deployed_of (view value.now) }
 {
-    if has_members(value, 1) { value.get("deploy") } else { None }
+    if has_members(value, 1) {
+        value.get("deploy")
+    } else {
+        None
+    }
 }
 
 /// The item that a value is.

@@ -14,6 +14,7 @@ use std::net::Ipv4Addr;
 
 /// The longest method and the longest target, in bytes.
 const MAX_METHOD: usize = 32;
+
 const MAX_TARGET: usize = 16_384;
 
 fn is_method(text: &[u8]) -> bool
