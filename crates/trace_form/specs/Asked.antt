@@ -1,0 +1,82 @@
+-- The request that an object of a line tells.
+use Rattle.std.specs.Prelude.{◌≡◌, ℕ, ◌^◌, Bool, true, false, ◌&&◌, not, ◌==◌, nat_lt, nat_le, cond, List, [], ◌∷◌, length, codes, Option, Some, None, option_and_then, option_map}
+use Rattle.std.specs.Bool.{then_some}
+use Rattle.std.specs.List.{list_all}
+use Rattle.serde_json.specs.Data.{Data, Items, no_items, item}
+use Rattle.serde_json.specs.Find.{get, at as element, as_str, as_number, as_u64}
+use Rattle.serde_json.specs.Events.{items_len}
+use Rattle.edge_base.specs.declared.message.Header.{Header}
+use Rattle.edge_base.specs.declared.message.Request.{Request}
+use Rattle.edge_base.specs.declared.address.Addr.{Addr}
+use Rattle.edge_base.specs.declared.address.Addr.TheVariants as addr
+use Rattle.edge_base.specs.Address.{IsAddrText}
+use Rattle.trace_form.specs.Members.{has_members, has_items, text_of, array_of, is_token}
+
+-- when it came: an integer from 0 to 2^53
+abbrev pub moment_of : Data → Option ℕ
+moment_of value = option_and_then (λ n. then_some (nat_le n (2 ^ 53)) n) (option_and_then as_u64 (option_and_then as_number (get (codes "at") value)))
+
+-- the peer: the text of a V4 address
+abbrev pub IsPeer : Data → Addr → Type 0
+IsPeer value (addr.V4 n) = (text : List ℕ) × (text_of (codes "ip") value ≡ Some text) × IsAddrText text (addr.V4 n)
+IsPeer value (addr.V6 n) = ⊥
+
+-- a token of at most 32 bytes
+abbrev pub is_method : List ℕ → Bool
+is_method text = nat_le (length text) 32 && is_token text
+
+abbrev pub method_of : Data → Option (List ℕ)
+method_of value = option_and_then (λ text. then_some (is_method text) text) (text_of (codes "method") value)
+
+-- a byte above the blank, and not 0x7F
+abbrev pub is_target_byte : ℕ → Bool
+is_target_byte byte = nat_lt 32 byte && not (byte == 127)
+
+-- 1 to 16,384 such bytes
+abbrev pub is_target : List ℕ → Bool
+is_target text = nat_lt 0 (length text) && nat_le (length text) 16384 && list_all is_target_byte text
+
+abbrev pub target_of : Data → Option (List ℕ)
+target_of value = option_and_then (λ text. then_some (is_target text) text) (text_of (codes "target") value)
+
+-- a text without CR, LF and NUL
+abbrev pub is_header_value : List ℕ → Bool
+is_header_value text = list_all (λ byte. not (byte == 13) && not (byte == 10) && not (byte == 0)) text
+
+-- the two texts of an array that has two elements
+abbrev pub pair_of : Data → Option (List ℕ × List ℕ)
+pair_of value = cond (has_items 2 value)
+    (option_and_then
+    (λ name. option_map (λ text. (name, text)) (option_and_then as_str (element 1 value)))
+    (option_and_then as_str (element 0 value)))
+    None
+
+abbrev pub header_from : List ℕ → List ℕ → Header
+header_from name value = record { name = name; value = value }
+
+-- a header: a pair of a token and a value
+abbrev pub header_of : Data → Option Header
+header_of value = option_and_then (λ pair. then_some (is_token pair.0 && is_header_value pair.1) (header_from pair.0 pair.1)) (pair_of value)
+
+-- each element is a header
+abbrev pub headers_from : Items → Option (List Header)
+headers_from no_items = Some []
+headers_from (item value values) = option_and_then (λ header. option_map (λ headers. header ∷ headers) (headers_from values)) (header_of value)
+
+-- the headers: an array of at most 100 of them
+abbrev pub headers_of : Data → Option (List Header)
+headers_of value = option_and_then
+    (λ items. cond (nat_le (items_len items) 100) (headers_from items) None)
+    (array_of (codes "headers") value)
+
+-- the value is an object of the five members of a request, and this is the request
+pub record IsRequest (value : Data) (request : Request) : Type 0 where
+  pub five : has_members 5 value ≡ true
+  pub at : moment_of value ≡ Some request.at
+  pub from : IsPeer value request.from
+  pub method : method_of value ≡ Some request.method
+  pub target : target_of value ≡ Some request.target
+  pub headers : headers_of value ≡ Some request.headers
+  pub ssl : request.ssl ≡ false
+  pub minor : request.minor ≡ 1
+  pub body : request.body ≡ []

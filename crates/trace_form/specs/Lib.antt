@@ -1,0 +1,4 @@
+pub mod Members
+pub mod Asked
+pub mod Item
+pub mod Line

@@ -1,0 +1,18 @@
+//! The lines of a trace: what one line of the input is (a deployment, a request or nothing), and how each answer is
+//! written.
+#![tactic(auto)]
+
+mod headers;
+mod item;
+mod members;
+mod output;
+mod reader;
+mod refusal;
+mod request;
+mod verdict;
+
+pub use item::{LineItem, Recorded};
+pub use output::{LineParts, line_of, push_bad_line, push_deploy_line, push_line};
+pub use reader::read_item;
+pub use refusal::{BadCause, LineFault};
+pub use verdict::{Response, Verdict, VerdictKind};

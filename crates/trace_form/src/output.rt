@@ -1,0 +1,156 @@
+ghost use Rattle.std.specs.Prelude.{◌≡◌, ◌++◌, IfOk, OnOk};
+ghost use Rattle.trace_form.specs.Line.{rule_text, ending_text, names_text, noted_text, kind_text, location_text, judged_text, line, deploy_line, bad_line};
+
+use crate::refusal::BadCause;
+use crate::verdict::{Verdict, VerdictKind};
+use edge_base::{Memory, Request, RuleName, Text, TextBuilder};
+use std::alloc::Global;
+
+/// What the line of a judged request tells.
+#[derive(Debug, Drop)]
+pub struct LineParts {
+    /// The request's number, from 1.
+    pub number: u64,
+    /// The version by which it was judged.
+    pub version: u64,
+    pub verdict: Verdict,
+    /// The request as rules have rewritten it.
+    pub request: Request,
+}
+
+/// The kind of a verdict, with its status.
+fn push_kind(out: &mut TextBuilder, alloc: Global, kind: &VerdictKind) -> Result<(), Memory>
+    ensures { OnOk result (out.new ≡ out.old ++ kind_text kind.now) }
+{
+    match kind {
+        VerdictKind::Pass => out.push(b"pass"),
+        VerdictKind::Block(response) => {
+            out.push(b"block:")?;
+            out.push_number(alloc, u64::from(response.status_code))
+        }
+        VerdictKind::Challenge => out.push(b"challenge"),
+        VerdictKind::Redirect { status, target: _ } => {
+            out.push(b"redirect:")?;
+            out.push_number(alloc, u64::from(*status))
+        }
+    }
+}
+
+/// The name of a rule.
+fn push_rule(out: &mut TextBuilder, name: &RuleName) -> Result<(), Memory>
+    ensures { OnOk result (out.new ≡ out.old ++ rule_text name.now) }
+{
+    out.push(name.set_id.bytes())?;
+    out.push(b"/")?;
+    out.push(name.rule.bytes())
+}
+
+/// The rule that ended the judging, or a dash.
+fn push_ending(out: &mut TextBuilder, rule: &Option<RuleName>) -> Result<(), Memory>
+    ensures { OnOk result (out.new ≡ out.old ++ ending_text rule.now) }
+{
+    match rule {
+        Some(name) => push_rule(out, name),
+        None => out.push(b"-"),
+    }
+}
+
+/// The names of more rules, each after a comma.
+fn push_names(out: &mut TextBuilder, names: &[RuleName]) -> Result<(), Memory>
+    ensures { OnOk result (out.new ≡ out.old ++ names_text names.now) }
+{
+    for name in names {
+        out.push(b",")?;
+        push_rule(out, name)?;
+    }
+    Ok(())
+}
+
+/// The rules that were noted, where there are any.
+fn push_noted(out: &mut TextBuilder, names: &[RuleName]) -> Result<(), Memory>
+    ensures { OnOk result (out.new ≡ out.old ++ noted_text names.now) }
+{
+    match names.split_first() {
+        Some((first, rest)) => {
+            out.push(b" log=")?;
+            push_rule(out, first)?;
+            push_names(out, rest)
+        }
+        None => Ok(()),
+    }
+}
+
+/// Where a redirect leads.
+fn push_location(out: &mut TextBuilder, kind: &VerdictKind) -> Result<(), Memory>
+    ensures { OnOk result (out.new ≡ out.old ++ location_text kind.now) }
+{
+    match kind {
+        VerdictKind::Redirect { status: _, target } => {
+            out.push(b" to=")?;
+            out.push_escaped(target.bytes())
+        }
+        _ => Ok(()),
+    }
+}
+
+/// How a request was judged, up to its target.
+#[tactic(auto, unfolding(crate::specs::Line::judged_text))]
+fn push_judged(out: &mut TextBuilder, alloc: Global, parts: &LineParts) -> Result<(), Memory>
+    ensures { OnOk result (out.new ≡ out.old ++ judged_text parts.now) }
+{
+    out.push_number(alloc, parts.number)?;
+    out.push(b" v")?;
+    out.push_number(alloc, parts.version)?;
+    out.push(b" ")?;
+    push_kind(out, alloc, &parts.verdict.kind)?;
+    out.push(b" ")?;
+    push_ending(out, &parts.verdict.rule)?;
+    out.push(b" ")?;
+    out.push_escaped(parts.request.target.bytes())
+}
+
+/// Writes the line of a judged request.
+#[tactic(auto, unfolding(crate::specs::Line::line))]
+pub fn push_line(out: &mut TextBuilder, alloc: Global, parts: &LineParts) -> Result<(), Memory>
+    ensures { OnOk result (out.new ≡ out.old ++ line parts.now) }
+{
+    push_judged(out, alloc, parts)?;
+    out.push(b" -")?;
+    push_noted(out, parts.verdict.noted.as_slice())?;
+    push_location(out, &parts.verdict.kind)?;
+    out.push(b"\n")
+}
+
+/// Writes the line of a deployment that was put in force as this version.
+pub fn push_deploy_line(out: &mut TextBuilder, alloc: Global, version: u64) -> Result<(), Memory>
+    ensures { OnOk result (out.new ≡ out.old ++ deploy_line version) }
+{
+    out.push(b"deploy v")?;
+    out.push_number(alloc, version)?;
+    out.push(b"\n")
+}
+
+/// Writes the line of an input line that is no item.
+pub fn push_bad_line(
+    out: &mut TextBuilder,
+    alloc: Global,
+    number: u64,
+    cause: BadCause,
+) -> Result<(), Memory>
+    ensures { OnOk result (out.new ≡ out.old ++ bad_line number cause) }
+{
+    out.push(b"bad ")?;
+    out.push_number(alloc, number)?;
+    out.push(b" ")?;
+    out.push(cause.name())?;
+    out.push(b"\n")
+}
+
+/// The line of a judged request.
+pub fn line_of(alloc: Global, parts: &LineParts) -> Result<Text, Memory>
+    ensures { IfOk result (λ text. text ≡ line parts.now) }
+{
+    let mut out = TextBuilder::new(alloc);
+    push_line(&mut out, alloc, parts)?;
+    Ok(out.into_text())
+}
