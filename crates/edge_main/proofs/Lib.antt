@@ -1,1 +1,4 @@
 pub mod DeploymentLemmas
+pub mod OutputLemmas
+pub mod RunLemmas
+pub mod RunningLemmas

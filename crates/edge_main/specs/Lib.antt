@@ -1,3 +1,6 @@
 pub mod Deployment
+pub mod Judging
+pub mod Output
+pub mod Running
 pub mod Statuses
 pub mod Words

@@ -2,9 +2,14 @@
 #![tactic(auto)]
 
 mod deployment;
+mod judging;
+mod laws;
+mod quiet;
+mod replay;
+mod run;
 mod statuses;
 mod words;
 
-pub use deployment::{Deployed, PathRule, deployed_of};
+pub use laws::{every_input_has_an_output, outputs_are_unique};
+pub use quiet::edge_quiet;
 pub use statuses::Status;
-pub use words::is_replay;

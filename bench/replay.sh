@@ -1,0 +1,63 @@
+#!/usr/bin/env bash
+# Measures `edge replay` on a million request lines behind a deployment, beside plain Rust that does the same.
+# usage: bench/replay.sh [LINES]      needs: the built program, cargo, python3 and Debian's librust-serde-json-dev
+# Prints for each program the best and the median of five runs, and the ratio of the two; the outputs are compared.
+set -eu
+here=$(cd "$(dirname "$0")" && pwd)
+edge=$here/../crates/edge/out/edge
+lines=${1:-1000000}
+registry=${CARGO_REGISTRY_DIR:-/usr/share/cargo/registry}
+for tool in cargo python3 cmp; do
+  command -v "$tool" >/dev/null || { echo "bench: no $tool here; left out"; exit 0; }
+done
+[ -x "$edge" ] || { echo "bench: the program isn't built; left out"; exit 0; }
+[ -d "$registry/serde_json-1.0.87" ] || ls -d "$registry"/serde_json-* >/dev/null 2>&1 || { echo "bench: no packaged serde_json here; left out"; exit 0; }
+
+(cd "$here/plain" && cargo build --release --offline --quiet \
+  --config 'source.crates-io.replace-with="packaged"' \
+  --config "source.packaged.directory=\"$registry\"")
+plain=$here/plain/target/release/plain
+mkdir -p "$here/out"
+
+python3 - "$lines" >"$here/out/input.jsonl" <<'P'
+import sys
+n = int(sys.argv[1])
+out = sys.stdout
+out.write('{"deploy":{"rulesets":[{"id":"fw","kind":"zone","phase":"http_request_firewall_custom","rules":[{"id":"b1","expression":"http.request.uri.path eq \\"/p7\\"","action":"block"}]}]}}\n')
+x, t = 7, 0
+for _ in range(n):
+    x = (x * 6364136223846793005 + 1442695040888963407) % 2**64
+    r = x >> 33
+    t += (r // 128) % 2000
+    out.write('{"at":%d,"ip":"10.0.0.%d","method":"GET","target":"/p%d?q=%d","headers":[["host","a.example"],["user-agent","curl/8.5.0"],["accept","*/*"]]}\n' % (t, r % 16, (r // 16) % 8, r % 1000))
+P
+
+python3 - "$edge" "$plain" "$here/out" "$lines" <<'P'
+import os, resource, statistics, subprocess, sys, time
+edge, plain, folder, lines = sys.argv[1], sys.argv[2], sys.argv[3], int(sys.argv[4])
+
+def run(name, words):
+    before = resource.getrusage(resource.RUSAGE_CHILDREN)
+    with open(folder + '/input.jsonl', 'rb') as given, open(folder + '/' + name + '.out', 'wb') as out:
+        begun = time.perf_counter()
+        child = subprocess.Popen(words, stdin=given, stdout=out)
+        _, status, used = os.wait4(child.pid, 0)
+        child.returncode = os.waitstatus_to_exitcode(status)
+        took = time.perf_counter() - begun
+    return took, used.ru_utime + used.ru_stime, used.ru_maxrss, child.returncode
+
+programs = {'edge': [edge, 'replay'], 'plain': [plain]}
+runs = {name: [] for name in programs}
+for _ in range(5):
+    for name, words in programs.items():
+        runs[name].append(run(name, words))
+for name in programs:
+    took = sorted(r[0] for r in runs[name])
+    cpu = sorted(r[1] for r in runs[name])
+    print('%-6s best %.0f lines/s, median %.0f lines/s, CPU %.2f us/line (best), peak %d KiB, status %d' % (
+        name, lines / took[0], lines / statistics.median(took), 1e6 * cpu[0] / lines, max(r[2] for r in runs[name]), runs[name][0][3]))
+best = min(r[0] for r in runs['plain']) / min(r[0] for r in runs['edge'])
+median = statistics.median(r[0] for r in runs['plain']) / statistics.median(r[0] for r in runs['edge'])
+print('ratio  best %.2f, median %.2f (above 1: edge is faster)' % (best, median))
+P
+cmp "$here/out/edge.out" "$here/out/plain.out" && echo "the outputs are equal"

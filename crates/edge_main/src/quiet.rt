@@ -1,0 +1,51 @@
+ghost use Rattle.std.specs.Prelude.{◌≡◌, ◌<◌, ◌^◌, ◌↔◌, ℕ, List, Option, Some, true, false, length, map, vec_len};
+ghost use Rattle.std.specs.Io.KnownBytes.{Appends};
+ghost use Rattle.edge_outside.specs.Faults.{Rose};
+ghost use Rattle.edge_main.specs.Statuses.{said_of};
+ghost use Rattle.edge_main.specs.Words.{is_replay};
+ghost use Rattle.edge_main.specs.Running.{Ended, Took, IsComplete};
+
+use crate::replay::replay_input;
+use crate::statuses::Status;
+use crate::words::is_replay;
+use edge_outside::{Sink, Source, write_all};
+use std::alloc::Global;
+use std::hash::RandomState;
+
+/// Tells the operator how a run ended; a fault of this changes nothing.
+fn tell<E: Sink>(status: Status, said: &mut E)
+    ensures { ¬ (Rose (E.faults said.old) (E.faults said.new)) → Appends (E.got said.old) (E.got said.new) (said_of status) }
+{
+    let _ = write_all(said, status.said());
+}
+
+/// Runs one command of those that wait for nobody: `replay`.
+pub fn edge_quiet<S: Source, K: Sink, E: Sink>(
+    alloc: Global,
+    words: &[&str],
+    input: &mut S,
+    out: &mut K,
+    said: &mut E,
+    hashers: Vec<RandomState>,
+) -> Status
+    requires { vec_len hashers ≡ 64 }
+    ensures usage { (result ≡ Status.Usage) ↔ (is_replay (map (λ word. word.now) words.now) ≡ false) }
+    ensures ended { (text : List ℕ) → S.left input.old ≡ Some text → Ended result text (K.got out.old) (K.got out.new) }
+    ensures read { result ≡ Status.ReadFault → Rose (S.faults input.old) (S.faults input.new) }
+    ensures write { result ≡ Status.WriteFault → Rose (K.faults out.old) (K.faults out.new) }
+    ensures never { ¬ (result ≡ Status.AcceptFault) × ¬ (result ≡ Status.Spent) }
+    ensures took { Took (S.left input.old) (S.left input.new) (S.taken input.old) (S.taken input.new) result }
+    ensures said { ¬ (Rose (E.faults said.old) (E.faults said.new)) → Appends (E.got said.old) (E.got said.new) (said_of result) }
+    ensures complete { ¬ (Rose (S.faults input.old) (S.faults input.new)) → ¬ (Rose (K.faults out.old) (K.faults out.new))
+        → is_replay (map (λ word. word.now) words.now) ≡ true
+        → (text rest : List ℕ) → S.left input.old ≡ Some text → S.left input.new ≡ Some rest → length text < 2 ^ 40
+        → IsComplete result text (K.got out.old) (K.got out.new) }
+{
+    let status = if is_replay(words) {
+        replay_input(alloc, input, out)
+    } else {
+        Status::Usage
+    };
+    tell(status, said);
+    status
+}
