@@ -20,7 +20,7 @@ fn hashers<R: RandomSource>(rt: &R, alloc: Global) -> io::Result<Vec<RandomState
     ensures { IfOk result (λ hashers. vec_len hashers ≡ 64) }
 {
     let mut hashers = Vec::new(alloc);
-    for _lane in 0..LANES {
+    for lane in 0..LANES {
         hashers.push(RandomState::new(rt)?)?;
     }
     Ok(hashers)
