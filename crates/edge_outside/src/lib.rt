@@ -8,6 +8,8 @@ mod line_reader;
 mod sink;
 mod source;
 mod standard;
+#[cfg(test)]
+mod tests;
 mod text_sink;
 mod text_source;
 

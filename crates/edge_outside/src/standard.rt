@@ -1,4 +1,7 @@
-ghost use Rattle.std.specs.Prelude.{◌≡◌};
+ghost use Rattle.std.specs.Prelude.{◌≡◌, ◌<◌, ◌≤◌, length, IfOk, OnErr};
+ghost use Rattle.std.specs.Io.{WritesAtMost};
+ghost use Rattle.std.specs.Io.KnownBytes.{WriteAppends};
+ghost use Rattle.edge_outside.specs.Faults.{Rose};
 
 use crate::failure::Failed;
 use crate::sink::Sink;
@@ -25,6 +28,23 @@ pub struct StdoutSink<W: Write + Drop> {
 pub struct StderrSink<W: Write + Drop> {
     inner: W,
     faults: u64,
+}
+
+/// One write. None taken of a piece that isn't empty is a fault.
+fn write_counted<W: Write>(inner: &mut W, faults: &mut u64, piece: &[u8]) -> Result<usize, Failed>
+    ensures bound { WritesAtMost result piece.now }
+    ensures bytes { WriteAppends (W.contents inner.old) (W.contents inner.new) result piece.now }
+    ensures moves { IfOk result (λ count. 0 < length piece.now → 0 < count) }
+    ensures failed { OnErr result (Rose faults.old faults.new) }
+    ensures later { faults.old ≤ faults.new }
+{
+    match inner.write(piece) {
+        Ok(count) if 0 < count || piece.is_empty() => Ok(count),
+        _ => {
+            *faults = faults.saturating_add(1);
+            Err(Failed)
+        }
+    }
 }
 
 impl<R: Read + Drop> StdinSource<R> {
@@ -71,13 +91,7 @@ impl<W: Write + Drop> Sink for StdoutSink<W> {
     ghost faults = { λ sink. sink.faults };
 
     fn write(&mut self, piece: &[u8]) -> Result<usize, Failed> {
-        match self.inner.write(piece) {
-            Ok(count) if 0 < count || piece.is_empty() => Ok(count),
-            _ => {
-                self.faults = self.faults.saturating_add(1);
-                Err(Failed)
-            }
-        }
+        write_counted(&mut self.inner, &mut self.faults, piece)
     }
 }
 
@@ -96,12 +110,6 @@ impl<W: Write + Drop> Sink for StderrSink<W> {
     ghost faults = { λ sink. sink.faults };
 
     fn write(&mut self, piece: &[u8]) -> Result<usize, Failed> {
-        match self.inner.write(piece) {
-            Ok(count) if 0 < count || piece.is_empty() => Ok(count),
-            _ => {
-                self.faults = self.faults.saturating_add(1);
-                Err(Failed)
-            }
-        }
+        write_counted(&mut self.inner, &mut self.faults, piece)
     }
 }
