@@ -7,3 +7,6 @@ mod form;
 
 pub use fault::ParseFault;
 pub use form::parse;
+
+#[cfg(test)]
+mod tests;

@@ -16,3 +16,6 @@ pub use output::{LineParts, line_of, push_bad_line, push_deploy_line, push_line}
 pub use reader::read_item;
 pub use refusal::{BadCause, LineFault};
 pub use verdict::{Response, Verdict, VerdictKind};
+
+#[cfg(test)]
+mod tests;
