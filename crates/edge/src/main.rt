@@ -1,30 +1,12 @@
 //! The program `edge`: it makes the real streams and hashers, and calls the top call.
 #![tactic(auto)]
 
-ghost use Rattle.std.specs.Prelude.{◌≡◌, IfOk, vec_len};
-
-use edge_main::{Status, edge_quiet};
+use edge_main::{Status, edge_quiet, lane_hashers};
 use edge_outside::{StderrSink, StdinSource, StdoutSink, write_all};
 use std::alloc::Global;
-use std::hash::RandomState;
 use std::process::ExitCode;
-use std::random::RandomSource;
 use std::rt::Env;
 use std::{env, io};
-
-/// One hasher for each lane of the counters.
-const LANES: usize = 64;
-
-/// A hasher for each lane, each with keys of its own.
-fn hashers<R: RandomSource>(rt: &R, alloc: Global) -> io::Result<Vec<RandomState>>
-    ensures { IfOk result (λ hashers. vec_len hashers ≡ 64) }
-{
-    let mut hashers = Vec::new(alloc);
-    for lane in 0..LANES {
-        hashers.push(RandomState::new(rt)?)?;
-    }
-    Ok(hashers)
-}
 
 /// The words behind the program's name.
 fn words<R: Env + AllocGlobal>(rt: &R) -> io::Result<Vec<String>> {
@@ -49,7 +31,7 @@ fn main(rt: HostRuntime) -> ExitCode {
     let mut input = StdinSource::new(rt.stdin());
     let mut out = StdoutSink::new(rt.stdout());
     let mut said = StderrSink::new(rt.stderr());
-    let Ok(hashers) = hashers(&rt, alloc) else {
+    let Ok(hashers) = lane_hashers(&rt, alloc) else {
         let _ = write_all(&mut said, Status::ReadFault.said());
         return ExitCode::from(Status::ReadFault.code());
     };

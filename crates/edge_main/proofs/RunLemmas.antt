@@ -19,27 +19,31 @@ OnOk-said (Err e) P Q f p = tt
 pub answered-blank : (before after : Run) (given text : List ℕ) → IsBlank given → text ≡ []
     → state_of after ≡ passed_by (state_of before) → after.any_bad ≡ before.any_bad → Answered before given text after
 answered-blank before after given text blank empty state same = record {
-    step = step.blank blank empty state;
-    bad = λ bad. inl (sym same ∙ bad);
-    good = λ good. (sym same ∙ good, blank-not_bad given blank) }
+  step = step.blank blank empty state;
+  bad = λ bad. inl (sym same ∙ bad);
+  good = λ good. (sym same ∙ good, blank-not_bad given blank);
+}
 
 pub answered-refused : (before after : Run) (given text : List ℕ) → IsBad given → Refused before text after → Answered before given text after
 answered-refused before after given text bad r = record {
-    step = step.bad bad r.text_is r.state;
-    bad = λ _. inr bad;
-    good = λ good. let never : true ≡ false = sym r.bad ∙ good in cc }
+  step = step.bad bad r.text_is r.state;
+  bad = λ _. inr bad;
+  good = λ good. let never : true ≡ false = sym r.bad ∙ good in cc;
+}
 
 pub answered-deploy : (before after : Run) (given text : List ℕ) (value : Data) → IsDeploy given value
     → (found : Option Deployed) → deployed_of value ≡ found → Redeployed found before text after → Answered before given text after
 answered-deploy before after given text value h None found r = answered-refused before after given text (inr (value, h, found)) r
 answered-deploy before after given text value h (Some deployed) found r = record {
-    step = step.deploy value deployed h found r.0 r.1;
-    bad = λ bad. inl (sym r.2 ∙ bad);
-    good = λ good. (sym r.2 ∙ good, deployed-not_bad given value deployed h found) }
+  step = step.deploy value deployed h found r.0 r.1;
+  bad = λ bad. inl (sym r.2 ∙ bad);
+  good = λ good. (sym r.2 ∙ good, deployed-not_bad given value deployed h found);
+}
 
 pub answered-ask : (before after : Run) (given text : List ℕ) (request : Request) → IsAsk given request
     → Judged before request text after → Answered before given text after
 answered-ask before after given text request h r = record {
-    step = step.ask request h r.text_is r.state;
-    bad = λ bad. inl (sym r.bad ∙ bad);
-    good = λ good. (sym r.bad ∙ good, ask-not_bad given request h) }
+  step = step.ask request h r.text_is r.state;
+  bad = λ bad. inl (sym r.bad ∙ bad);
+  good = λ good. (sym r.bad ∙ good, ask-not_bad given request h);
+}

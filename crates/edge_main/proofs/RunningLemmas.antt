@@ -36,7 +36,7 @@ pub output_goes_on : (run run' : Run) (rest rest' given answer more : List ℕ) 
     → Outputs (state_of run) (lines_of rest) (answer ++ more)
 output_goes_on run run' rest rest' given answer more first step output =
     subst (λ lines. Outputs (state_of run) lines (answer ++ more)) (sym first)
-        (answer, more, state_of run', step, output, refl)
+    (answer, more, state_of run', step, output, refl)
 
 -- what is written is the front of an output, with what is pending behind it
 pub front_of : (run : Run) (reader : LineReader) (left before now : Option (List ℕ)) (pending text : List ℕ)
@@ -52,25 +52,29 @@ pub progress-line : (ended : Turn) (run run' : Run) (reader reader' : LineReader
     → LineOf ended run given run' now now' pending pending'
     → TurnOf ended run' reader' left' before now' pending' text
 progress-line turn.Next run run' reader reader' left left' before now now' pending pending' text given p g (inl (answer, a, (w, appends, same))) = record {
-    rest = g.rest;
-    stands = g.after;
-    written = p.written ++ w;
-    appends = Appends-trans before now now' p.written w p.appends appends;
-    output = λ more output. subst (IsOutput text) (seam p.written pending answer more w pending' same)
-        (p.output (answer ++ more) (output_goes_on run run' p.rest g.rest given answer more g.is_first a.step output));
-    bad = λ bad. elim (a.bad bad) [ inl begun ↦ p.bad begun | inr this ↦ p.back (subst AnyBad (sym g.is_first) (inl this)) ];
-    good = λ good any. elim (subst AnyBad g.is_first (p.good ((a.good good).0) any)) [ inl this ↦ absurd ((a.good good).1 this) | inr later ↦ later ];
-    back = λ any. p.back (subst AnyBad (sym g.is_first) (inr any)) }
+  rest = g.rest;
+  stands = g.after;
+  written = p.written ++ w;
+  appends = Appends-trans before now now' p.written w p.appends appends;
+  output = λ more output. subst (IsOutput text) (seam p.written pending answer more w pending' same)
+      (p.output (answer ++ more) (output_goes_on run run' p.rest g.rest given answer more g.is_first a.step output));
+  bad = λ bad. elim (a.bad bad) [ inl begun ↦ p.bad begun | inr this ↦ p.back (subst AnyBad (sym g.is_first) (inl this)) ];
+  good = λ good any. elim (subst AnyBad g.is_first (p.good ((a.good good).0) any)) [ inl this ↦ absurd ((a.good good).1 this) | inr later ↦ later ];
+  back = λ any. p.back (subst AnyBad (sym g.is_first) (inr any));
+}
 progress-line (turn.Ended status.Memory) run run' reader reader' left left' before now now' pending pending' text given p g (inl (answer, a, (none, same))) =
     let front = front_of run reader left before now pending text p in
     subst (λ kept. WroteFrontBut kept text before now') (sym same)
-        (front.0, front.1, Appends-none before now now' front.0 front.2 none, front.3)
+    (front.0, front.1, Appends-none before now now' front.0 front.2 none, front.3)
 progress-line (turn.Ended status.WriteFault) run run' reader reader' left left' before now now' pending pending' text given p g (inl (answer, a, (count, appends))) =
     let rest = some_output (state_of run') (lines_of g.rest) in
-    let all = pending ++ answer in
-    (p.written ++ take count all, drop count all ++ rest.0, Appends-trans before now now' p.written (take count all) p.appends appends,
-        subst (IsOutput text) (seam p.written pending answer rest.0 (take count all) (drop count all) (take-append-drop count all))
-            (p.output (answer ++ rest.0) (output_goes_on run run' p.rest g.rest given answer rest.0 g.is_first a.step rest.1)))
+    let all = pending ++ answer in (
+      p.written ++ take count all,
+      drop count all ++ rest.0,
+      Appends-trans before now now' p.written (take count all) p.appends appends,
+      subst (IsOutput text) (seam p.written pending answer rest.0 (take count all) (drop count all) (take-append-drop count all))
+          (p.output (answer ++ rest.0) (output_goes_on run run' p.rest g.rest given answer rest.0 g.is_first a.step rest.1)),
+    )
 progress-line (turn.Ended status.Done) run run' reader reader' left left' before now now' pending pending' text given p g (inl (answer, a, none)) = absurd none
 progress-line (turn.Ended status.Usage) run run' reader reader' left left' before now now' pending pending' text given p g (inl (answer, a, none)) = absurd none
 progress-line (turn.Ended status.BadItems) run run' reader reader' left left' before now now' pending pending' text given p g (inl (answer, a, none)) = absurd none
@@ -81,8 +85,8 @@ progress-line (turn.Ended status.Spent) run run' reader reader' left left' befor
 progress-line ended run run' reader reader' left left' before now now' pending pending' text given p g (inr (is_memory, none, same)) =
     let front = front_of run reader left before now pending text p in
     subst (λ t. TurnOf t run' reader' left' before now' pending' text) (sym is_memory)
-        (subst (λ kept. WroteFrontBut kept text before now') (sym same)
-            (front.0, front.1, Appends-none before now now' front.0 front.2 none, front.3))
+    (subst (λ kept. WroteFrontBut kept text before now') (sym same)
+    (front.0, front.1, Appends-none before now now' front.0 front.2 none, front.3))
 
 -- the two ends of a run
 pub closing-flag : (any_bad : Bool) (before now : Option (List ℕ)) (pending text : List ℕ) → WroteBut pending text before now
@@ -98,9 +102,9 @@ pub progress-end : (run : Run) (reader : LineReader) (left before now : Option (
 progress-end run reader left before now pending text p ended =
     let none : Outputs (state_of run) (lines_of p.rest) [] = subst (λ rest. Outputs (state_of run) (lines_of rest) []) (sym ended) refl in
     closing-flag run.any_bad before now pending text
-        (p.written, p.appends, subst (λ xs. IsOutput text (p.written ++ xs)) (append-nil pending) (p.output [] none))
-        p.bad
-        (λ good any. let later : AnyBad (lines_of []) = subst (λ rest. AnyBad (lines_of rest)) ended (p.good good any) in later)
+    (p.written, p.appends, subst (λ xs. IsOutput text (p.written ++ xs)) (append-nil pending) (p.output [] none))
+    p.bad
+    (λ good any. let later : AnyBad (lines_of []) = subst (λ rest. AnyBad (lines_of rest)) ended (p.good good any) in later)
 
 -- all that was pending was written
 pub written_all : (pending text : List ℕ) (before now after : Option (List ℕ)) → WroteBut pending text before now → Appends now after pending
@@ -111,21 +115,26 @@ written_all pending text before now after wrote all =
 -- all that was pending was written, or its front
 pub written_front : (pending text : List ℕ) (before now after : Option (List ℕ)) → WroteFrontBut pending text before now
     → (count : ℕ) → Appends now after (take count pending) → WroteFront text before after
-written_front pending text before now after wrote count part =
-    (wrote.0 ++ take count pending, drop count pending ++ wrote.1,
-        Appends-trans before now after wrote.0 (take count pending) wrote.2 part,
-        subst (IsOutput text)
-            (ap (λ xs. wrote.0 ++ (xs ++ wrote.1)) (sym (take-append-drop count pending))
-            ∙ ap (λ xs. wrote.0 ++ xs) (append_assoc (take count pending) (drop count pending) wrote.1)
-            ∙ sym (append_assoc wrote.0 (take count pending) (drop count pending ++ wrote.1)))
-            wrote.3)
+written_front pending text before now after wrote count part = (
+  wrote.0 ++ take count pending,
+  drop count pending ++ wrote.1,
+  Appends-trans before now after wrote.0 (take count pending) wrote.2 part,
+  subst (IsOutput text)
+      (ap (λ xs. wrote.0 ++ (xs ++ wrote.1)) (sym (take-append-drop count pending))
+      ∙ ap (λ xs. wrote.0 ++ xs) (append_assoc (take count pending) (drop count pending) wrote.1)
+      ∙ sym (append_assoc wrote.0 (take count pending) (drop count pending ++ wrote.1)))
+      wrote.3,
+)
 
 -- all that was pending was written, where the front of an output was
 pub front-written : (pending text : List ℕ) (before now after : Option (List ℕ)) → WroteFrontBut pending text before now
     → Appends now after pending → WroteFront text before after
-front-written pending text before now after wrote all =
-    (wrote.0 ++ pending, wrote.1, Appends-trans before now after wrote.0 pending wrote.2 all,
-        subst (IsOutput text) (sym (append_assoc wrote.0 pending wrote.1)) wrote.3)
+front-written pending text before now after wrote all = (
+  wrote.0 ++ pending,
+  wrote.1,
+  Appends-trans before now after wrote.0 pending wrote.2 all,
+  subst (IsOutput text) (sym (append_assoc wrote.0 pending wrote.1)) wrote.3,
+)
 
 -- a whole output is a front of one
 pub but_front : (pending text : List ℕ) (before now : Option (List ℕ)) → WroteBut pending text before now → WroteFrontBut pending text before now
@@ -162,16 +171,17 @@ ended-cut status.Spent pending text before now after other closing count part = 
 pub progress-opening : (replay : Replay) (left got : Option (List ℕ)) (text : List ℕ) → IsOpening replay → left ≡ Some text
     → Progress replay.run replay.reader left got got replay.pending text
 progress-opening replay left got text opens told = record {
-    rest = text;
-    stands = subst (λ o. Stands replay.reader o text) (sym told) (opens.stands text);
-    written = [];
-    appends = Appends-nil got;
-    output = λ more output.
-        subst (λ pending. IsOutput text ([] ++ (pending ++ more))) (sym opens.pending)
-            (subst (λ s. Outputs s (lines_of text) more) opens.state output);
-    bad = λ bad. let never : true ≡ false = sym bad ∙ opens.good in cc;
-    good = λ _ any. any;
-    back = λ any. any }
+  rest = text;
+  stands = subst (λ o. Stands replay.reader o text) (sym told) (opens.stands text);
+  written = [];
+  appends = Appends-nil got;
+  output = λ more output.
+      subst (λ pending. IsOutput text ([] ++ (pending ++ more))) (sym opens.pending)
+      (subst (λ s. Outputs s (lines_of text) more) opens.state output);
+  bad = λ bad. let never : true ≡ false = sym bad ∙ opens.good in cc;
+  good = λ _ any. any;
+  back = λ any. any;
+}
 
 pub ended-same : (a b : Status) → turn.Ended a ≡ turn.Ended b → a ≡ b
 ended-same a b same = cc

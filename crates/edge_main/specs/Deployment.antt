@@ -65,9 +65,9 @@ named_rule set_id id path = record { name = record { set_id = set_id; rule = id 
 abbrev pub rule_of : List ℕ → Data → Option PathRule
 rule_of set_id value =
     tested (has_members 3 value && is_text (codes "action") (codes "block") value)
-        (option_and_then
-            (λ id. option_map (named_rule set_id id) (option_and_then form_of (text_of (codes "expression") value)))
-            (id_of value))
+    (option_and_then
+    (λ id. option_map (named_rule set_id id) (option_and_then form_of (text_of (codes "expression") value)))
+    (id_of value))
 
 -- nothing where there is no rule, and else the rule
 abbrev pub rules_of : List ℕ → Option Data → Option Deployed
@@ -82,9 +82,9 @@ is_taken_set value = has_members 4 value && is_text (codes "kind") (codes "zone"
 abbrev pub set_of : Data → Option Deployed
 set_of value =
     tested (is_taken_set value)
-        (option_and_then
-            (λ id. option_and_then (rules_of id) (only_of (codes "rules") value))
-            (id_of value))
+    (option_and_then
+    (λ id. option_and_then (rules_of id) (only_of (codes "rules") value))
+    (id_of value))
 
 abbrev pub sets_of : Option Data → Option Deployed
 sets_of None = Some (record { rule = None })

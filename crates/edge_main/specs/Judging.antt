@@ -18,9 +18,10 @@ passed = record { kind = kind.Pass; rule = None; noted = [] }
 -- blocked by the rule, with the response of a rule that says nothing of it
 abbrev pub blocked : PathRule → Verdict
 blocked rule = record {
-    kind = kind.Block (record { status_code = 403; content = codes "blocked" ++ 10 ∷ []; content_type = codes "text/plain" });
-    rule = Some rule.name;
-    noted = [] }
+  kind = kind.Block (record { status_code = 403; content = codes "blocked" ++ 10 ∷ []; content_type = codes "text/plain" });
+  rule = Some rule.name;
+  noted = [];
+}
 
 abbrev pub judged : Option PathRule → Request → Verdict
 judged None request = passed

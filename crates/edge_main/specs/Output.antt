@@ -44,10 +44,11 @@ deploy_text s = deploy_line (s.version + 1)
 -- what is written for a request, which is judged by the version in force
 abbrev pub ask_text : State → Request → List ℕ
 ask_text s request = line (record {
-    number = s.requests + 1;
-    version = s.version;
-    verdict = verdict_of s.deployed request;
-    request = request })
+  number = s.requests + 1;
+  version = s.version;
+  verdict = verdict_of s.deployed request;
+  request = request;
+})
 
 -- the line is no item: of no form, or a deployment of a form that is not taken
 abbrev pub IsBad : List ℕ → Type 0

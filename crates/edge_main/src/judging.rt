@@ -9,7 +9,9 @@ use trace_form::{Response, Verdict, VerdictKind};
 
 /// The status, the text and its type with which a rule blocks that says nothing of them.
 const BLOCK_STATUS: u16 = 403;
+
 const BLOCK_CONTENT: &[u8] = b"blocked\n";
+
 const BLOCK_CONTENT_TYPE: &[u8] = b"text/plain";
 
 /// Whether the rule's condition is true of the request.

@@ -2,14 +2,18 @@
 #![tactic(auto)]
 
 mod deployment;
+mod hashers;
 mod judging;
 mod laws;
 mod quiet;
 mod replay;
 mod run;
 mod statuses;
+#[cfg(test)]
+mod tests;
 mod words;
 
+pub use hashers::lane_hashers;
 pub use laws::{every_input_has_an_output, outputs_are_unique};
 pub use quiet::edge_quiet;
 pub use statuses::Status;

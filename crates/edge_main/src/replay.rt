@@ -72,7 +72,11 @@ impl Replay {
         ensures write { result ≡ Turn.Ended Status.WriteFault → Rose (K.faults out.old) (K.faults out.new) }
         ensures later { K.faults out.old ≤ K.faults out.new }
     {
-        if self.run.answer(alloc, self.reader.line(), &mut self.answer).is_err() {
+        if self
+            .run
+            .answer(alloc, self.reader.line(), &mut self.answer)
+            .is_err()
+        {
             return Turn::Ended(Status::Memory);
         }
         give(self.answer.bytes(), &mut self.pending, out)

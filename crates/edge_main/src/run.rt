@@ -6,7 +6,10 @@ use crate::statuses::Status;
 use edge_base::{Memory, Request, TextBuilder};
 use serde_json::Value;
 use std::alloc::Global;
-use trace_form::{BadCause, LineFault, LineItem, LineParts, Recorded, push_bad_line, push_deploy_line, push_line, read_item};
+use trace_form::{
+    BadCause, LineFault, LineItem, LineParts, Recorded, push_bad_line, push_deploy_line, push_line,
+    read_item,
+};
 
 /// How far a run of `replay` has come.
 #[derive(Debug, Drop)]
@@ -70,7 +73,12 @@ impl Run {
     }
 
     /// A deployment: it is put in force, or refused where its form is not taken.
-    fn deploy(&mut self, alloc: Global, value: &Value, answer: &mut TextBuilder) -> Result<(), Memory>
+    fn deploy(
+        &mut self,
+        alloc: Global,
+        value: &Value,
+        answer: &mut TextBuilder,
+    ) -> Result<(), Memory>
         requires { self.old.lines < 2 ^ 40 }
         ensures { OnOk result (Redeployed (deployed_of (view value.now)) self.old answer.new self.new) }
     {
@@ -86,7 +94,12 @@ impl Run {
     }
 
     /// A request: it is judged by what is in force.
-    fn judge(&mut self, alloc: Global, request: Request, answer: &mut TextBuilder) -> Result<(), Memory>
+    fn judge(
+        &mut self,
+        alloc: Global,
+        request: Request,
+        answer: &mut TextBuilder,
+    ) -> Result<(), Memory>
         requires { self.old.lines < 2 ^ 40 }
         ensures { OnOk result (Judged self.old request answer.new self.new) }
     {
@@ -104,7 +117,12 @@ impl Run {
     }
 
     /// Answers one line: what is written for it is then all that `answer` holds.
-    pub fn answer(&mut self, alloc: Global, given: &[u8], answer: &mut TextBuilder) -> Result<(), Memory>
+    pub fn answer(
+        &mut self,
+        alloc: Global,
+        given: &[u8],
+        answer: &mut TextBuilder,
+    ) -> Result<(), Memory>
         requires { self.old.lines < 2 ^ 40 }
         ensures { OnOk result (Answered self.old given.now answer.new self.new) }
     {

@@ -6,8 +6,8 @@ use Rattle.edge_main.proofs.replay.replay_input.Given as goal
 abbrev pub invariant-lines : goal.invariant-lines
 invariant-lines g l =
     IsUnderWay l.replay (g.S.Source.left l.fn.input) (g.S.Source.left l.input) (g.S.Source.taken l.fn.input) (g.S.Source.taken l.input)
-        (g.K.Sink.got l.fn.out) (g.K.Sink.got l.out) (g.S.Source.faults l.fn.input) (g.S.Source.faults l.input)
-        (g.K.Sink.faults l.fn.out) (g.K.Sink.faults l.out)
+    (g.K.Sink.got l.fn.out) (g.K.Sink.got l.out) (g.S.Source.faults l.fn.input) (g.S.Source.faults l.input)
+    (g.K.Sink.faults l.fn.out) (g.K.Sink.faults l.out)
 
 abbrev pub decreases-lines : goal.decreases-lines
 decreases-lines g l = weight l.replay.reader

@@ -1,5 +1,5 @@
 use Rattle.std.proofs.Common.{◌≡◌, vec_len}
-use Rattle.edge.proofs.hashers.Given as goal
+use Rattle.edge_main.proofs.hashers.lane_hashers.Given as goal
 
 -- one hasher for each lane so far
 abbrev pub invariant-loop-lane : goal.invariant-loop-lane

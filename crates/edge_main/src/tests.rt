@@ -1,0 +1,238 @@
+//! `replay` on inputs in memory: worked examples, and each read and each write failing in turn.
+ghost use Rattle.std.specs.Prelude.{◌≡◌, ◌≤◌, vec_len};
+
+use crate::{Status, edge_quiet, lane_hashers};
+use edge_base::Text;
+use edge_outside::{Numbers, TextSink, TextSource};
+use std::alloc::Global;
+use std::hash::RandomState;
+use std::process::Abort;
+use std::random::RandomSource;
+use std::test::Fail;
+
+const DEPLOY: &str =
+    "{\"deploy\":{\"rulesets\":[{\"id\":\"fw\",\"kind\":\"zone\",\"phase\":\"http_request_firewall_custom\",\"rules\":[{\"id\":\"r1\",\"expression\":\"http.request.uri.path eq \\\"/admin\\\"\",\"action\":\"block\"}]}]}}\n{\"at\":0,\"ip\":\"10.0.0.1\",\"method\":\"GET\",\"target\":\"/admin\",\"headers\":[[\"host\",\"a.example\"]]}\n";
+
+/// The bytes of the first line of `DEPLOY`, with its newline.
+const FIRST_LINE: usize = 181;
+
+const BLOCKED: &str = "deploy v1\n1 v1 block:403 fw/r1 /admin -\n";
+
+const ROOT: &str =
+    "{\"at\":0,\"ip\":\"10.0.0.1\",\"method\":\"GET\",\"target\":\"/\",\"headers\":[[\"host\",\"a.example\"]]}\n";
+
+const WITH_BAD: &str =
+    "{\"at\":0,\"ip\":\"10.0.0.1\",\"method\":\"GET\",\"target\":\"/\",\"headers\":[[\"host\",\"a.example\"]]}\n{x\n{\"at\":1,\"ip\":\"10.0.0.1\",\"method\":\"GET\",\"target\":\"/\",\"headers\":[[\"host\",\"a.example\"]]}";
+
+/// What a run came to.
+#[derive(Debug, Drop)]
+struct Ran {
+    status: Status,
+    out: Text,
+    said: Text,
+}
+
+/// Which calls of the streams fail, and the most that one call moves.
+#[derive(Debug, Drop)]
+struct Streams {
+    piece: usize,
+    reads: Numbers,
+    writes: Numbers,
+}
+
+fn run(
+    alloc: Global,
+    hashers: Vec<RandomState>,
+    words: &[&str],
+    input: &str,
+    streams: Streams,
+) -> Result<Ran, Fail>
+    requires hashers { vec_len hashers ≡ 64 }
+    requires piece { 1 ≤ streams.piece }
+{
+    let Streams {
+        piece,
+        reads,
+        writes,
+    } = streams;
+    let mut source = TextSource::new(Text::of(alloc, input.as_bytes())?, piece, reads);
+    let mut out = TextSink::new(alloc, 4_096, piece, writes)?;
+    let mut said = TextSink::new(alloc, 64, 64, Numbers::new(alloc))?;
+    let status = edge_quiet(alloc, words, &mut source, &mut out, &mut said, hashers);
+    Ok(Ran {
+        status,
+        out: Text::of(alloc, out.bytes())?,
+        said: Text::of(alloc, said.bytes())?,
+    })
+}
+
+fn steady(alloc: Global, piece: usize) -> Streams
+    ensures { result.piece ≡ piece }
+{
+    Streams {
+        piece,
+        reads: Numbers::new(alloc),
+        writes: Numbers::new(alloc),
+    }
+}
+
+fn check(rt: &impl Abort, ran: &Ran, status: Status, out: &[u8], said: &[u8]) {
+    assert!(rt; ran.status == status);
+    assert!(rt; ran.out.bytes() == out);
+    assert!(rt; ran.said.bytes() == said);
+}
+
+#[test]
+fn each_line_is_answered(rt: HostRuntime) -> Result<(), Fail> {
+    let alloc = rt.alloc();
+    let cases = [
+        ("", "", Status::Done),
+        (DEPLOY, BLOCKED, Status::Done),
+        (ROOT, "1 v0 pass - / -\n", Status::Done),
+        (
+            WITH_BAD,
+            "1 v0 pass - / -\nbad 2 Unsupported\n2 v0 pass - / -\n",
+            Status::BadItems,
+        ),
+        (" \t\r\n\n", "", Status::Done),
+        ("[]\n", "bad 1 Unsupported\n", Status::BadItems),
+    ];
+    for (input, out, status) in cases {
+        let ran = run(
+            alloc,
+            lane_hashers(&rt, alloc)?,
+            &["replay"],
+            input,
+            steady(alloc, 64),
+        )?;
+        check(&rt, &ran, status, out.as_bytes(), b"");
+    }
+    Ok(())
+}
+
+#[test]
+fn other_words_are_no_command(rt: HostRuntime) -> Result<(), Fail> {
+    let alloc = rt.alloc();
+    let none = run(
+        alloc,
+        lane_hashers(&rt, alloc)?,
+        &[],
+        ROOT,
+        steady(alloc, 64),
+    )?;
+    check(&rt, &none, Status::Usage, b"", b"edge: usage\n");
+    let extra = run(
+        alloc,
+        lane_hashers(&rt, alloc)?,
+        &["replay", "extra"],
+        ROOT,
+        steady(alloc, 64),
+    )?;
+    check(&rt, &extra, Status::Usage, b"", b"edge: usage\n");
+    Ok(())
+}
+
+/// What the whole lines among the first bytes of `DEPLOY` are answered.
+fn answered(taken: usize) -> &'static str {
+    if DEPLOY.len() <= taken {
+        BLOCKED
+    } else if FIRST_LINE <= taken {
+        "deploy v1\n"
+    } else {
+        ""
+    }
+}
+
+/// The k-th read fails: what was taken before is answered, and nothing else.
+fn check_read<R: Abort + RandomSource + AllocGlobal>(
+    rt: &R,
+    piece: usize,
+    k: u16,
+) -> Result<(), Fail>
+    requires { 1 ≤ piece }
+{
+    let alloc = rt.alloc();
+    let mut streams = steady(alloc, piece);
+    streams.reads.push(u64::from(k))?;
+    let ran = run(
+        alloc,
+        lane_hashers(rt, alloc)?,
+        &["replay"],
+        DEPLOY,
+        streams,
+    )?;
+    let taken = piece.saturating_mul(usize::from(k));
+    if taken < DEPLOY.len().saturating_add(piece) {
+        check(
+            rt,
+            &ran,
+            Status::ReadFault,
+            answered(taken).as_bytes(),
+            b"edge: read fault\n",
+        );
+    } else {
+        check(rt, &ran, Status::Done, BLOCKED.as_bytes(), b"");
+    }
+    Ok(())
+}
+
+/// The k-th write fails: what was written before stands.
+fn check_write<R: Abort + RandomSource + AllocGlobal>(
+    rt: &R,
+    piece: usize,
+    k: u16,
+) -> Result<(), Fail>
+    requires { 1 ≤ piece }
+{
+    let alloc = rt.alloc();
+    let mut streams = steady(alloc, piece);
+    streams.writes.push(u64::from(k))?;
+    let ran = run(
+        alloc,
+        lane_hashers(rt, alloc)?,
+        &["replay"],
+        DEPLOY,
+        streams,
+    )?;
+    let written = piece.saturating_mul(usize::from(k));
+    if written < BLOCKED.len() {
+        check(
+            rt,
+            &ran,
+            Status::WriteFault,
+            &BLOCKED.as_bytes()[..written],
+            b"edge: write fault\n",
+        );
+    } else {
+        check(rt, &ran, Status::Done, BLOCKED.as_bytes(), b"");
+    }
+    Ok(())
+}
+
+#[test]
+fn each_read_may_fail(rt: HostRuntime) -> Result<(), Fail> {
+    for k in 0..275 {
+        check_read(&rt, 1, k)?;
+    }
+    for k in 0..41 {
+        check_read(&rt, 7, k)?;
+    }
+    for k in 0..3 {
+        check_read(&rt, 4_096, k)?;
+    }
+    Ok(())
+}
+
+#[test]
+fn each_write_may_fail(rt: HostRuntime) -> Result<(), Fail> {
+    for k in 0..45 {
+        check_write(&rt, 1, k)?;
+    }
+    for k in 0..8 {
+        check_write(&rt, 7, k)?;
+    }
+    for k in 0..2 {
+        check_write(&rt, 4_096, k)?;
+    }
+    Ok(())
+}
