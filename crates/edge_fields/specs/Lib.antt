@@ -1,2 +1,4 @@
 pub mod Target
 pub mod Names
+pub mod Maps
+pub mod Fields
