@@ -1,3 +1,4 @@
+pub mod KindsLemmas
 pub mod MapsLemmas
 pub mod NamesLemmas
 pub mod PlaceLemmas

@@ -208,6 +208,14 @@ map_of_push pairs k v = start ∙ by (list_any (bytes_eq k) ks) refl
         ∙ sym (insert-new f k v ds (v ∷ []) (absent f k v ds among))
         ∙ ap (λ had. insert_entry bytes_eq (map_of pairs) k (unwrap_or had [] ++ v ∷ [])) (sym (lookup-entries f k v ds ∙ ap (λ c. if c then Some (f k) else None) among))
 
+-- the keys of a map are distinct
+keys-entries : (f : Text → List Text) (ds : List Text) → keys_of (map (λ key. (key, f key)) ds) ≡ ds
+keys-entries f [] = refl
+keys-entries f (d ∷ ds) = ap (λ rest. d ∷ rest) (keys-entries f ds)
+
+pub IsDistinct-map_of : (pairs : Pairs) → IsDistinct bytes_eq (keys_of (map_of pairs))
+IsDistinct-map_of pairs = subst (IsDistinct bytes_eq) (sym (keys-entries (λ key. values_at key pairs) (distinct_of (keys_of pairs)))) (IsDistinct-distinct_of (keys_of pairs))
+
 -- ---- what the code does with a map
 -- a value pushed at the place of its key
 pub with_value-at : (es : List (Text × List Text)) (k v : Text) (at : ℕ) (texts : List Text) → position (bytes_eq k) (keys_of es) ≡ Some at → slice_get (values_of es) at ≡ Some texts → set_value_at es at (texts ++ v ∷ []) ≡ with_value es k v

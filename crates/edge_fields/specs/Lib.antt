@@ -2,3 +2,5 @@ pub mod Target
 pub mod Names
 pub mod Maps
 pub mod Fields
+pub mod Kinds
+pub mod Schemes

@@ -1,7 +1,9 @@
-ghost use Rattle.std.specs.Prelude.{◌≡◌, ◌/◌, pos, Some, IfOk};
+ghost use Rattle.std.specs.Prelude.{◌≡◌, ◌/◌, ◌↔◌, pos, Some, None, IsTrue, IfOk, IfSome};
 ghost use Rattle.std.specs.Option.{option_copied};
 ghost use Rattle.edge_fields.specs.Target.{uri_of};
 ghost use Rattle.edge_fields.specs.Fields.{host_of, version_of, full_uri_of, value_of};
+ghost use Rattle.edge_fields.specs.Names.{kind_of, is_response};
+ghost use Rattle.edge_fields.specs.Kinds.{HasKind};
 ghost use Rattle.edge_fields.specs.declared.value.Value.TheVariants as value;
 
 use crate::arguments::arguments_of;
@@ -70,14 +72,14 @@ fn text_value(alloc: Global, bytes: &[u8]) -> Result<Option<Value>, Memory>
     Ok(Some(Value::Text(Text::of(alloc, bytes)?)))
 }
 
-/// A field of a request and of its reply. None is answered exactly for a field of the reply without a reply.
-pub fn field(
+/// A field of a request and of its reply, by the table of fields.
+fn computed(
     alloc: Global,
     request: &Request,
     reply: Option<&Reply>,
     id: FieldId,
 ) -> Result<Option<Value>, Memory>
-    ensures value { IfOk result (λ found. found ≡ value_of request.now (option_copied reply.entry) id) }
+    ensures { IfOk result (λ found. found ≡ value_of request.now (option_copied reply.entry) id) }
 {
     let headers = request.headers.as_slice();
     match id {
@@ -109,4 +111,19 @@ pub fn field(
             None => Ok(None),
         },
     }
+}
+
+/// A field of a request and of its reply.
+pub fn field(
+    alloc: Global,
+    request: &Request,
+    reply: Option<&Reply>,
+    id: FieldId,
+) -> Result<Option<Value>, Memory>
+    ensures value { IfOk result (λ found. found ≡ value_of request.now (option_copied reply.entry) id) }
+    ensures missing { IfOk result (λ found. (found ≡ None)
+        ↔ (IsTrue (is_response id) × (option_copied reply.entry ≡ None))) }
+    ensures kind { IfOk result (λ found. IfSome found (HasKind (kind_of id))) }
+{
+    computed(alloc, request, reply, id)
 }
