@@ -1,3 +1,5 @@
+pub mod KindsLemmas
+pub mod MapsLemmas
 pub mod NamesLemmas
 pub mod PlaceLemmas
 pub mod TargetLemmas

@@ -1,9 +1,8 @@
 -- What `/` in front of a uri does to its path and its query.
-use Rattle.std.proofs.Common.{add-one, ◌≡◌, ℕ, ◌+◌, Bool, true, false, List, [], ◌∷◌, ◌++◌, ◌⊎◌, inl, inr, refl, sym, ap, ◌==◌, arith}
+use Rattle.std.proofs.Common.{add-one, ◌≡◌, ℕ, Bool, true, false, List, [], ◌∷◌, ◌⊎◌, inl, inr, refl, ◌==◌}
 use Rattle.std.proofs.Math.Numerals.{one-add}
-use Rattle.std.proofs.lemmas.Grind.{common_steps}
 use Rattle.std.specs.List.{before_first, after_first}
-use Rattle.edge_fields.specs.Target.{is_question, ends_authority, after_authority, root_of, rooted}
+use Rattle.edge_fields.specs.Target.{is_question, after_authority, root_of, rooted}
 
 -- what follows an authority has a root that is empty or the path
 abbrev pub RootIsPath : List ℕ → Type 0

@@ -1,2 +1,6 @@
 pub mod Target
 pub mod Names
+pub mod Maps
+pub mod Fields
+pub mod Kinds
+pub mod Schemes

@@ -1,6 +1,6 @@
--- What a target stands for: its uri, and the path and the query of the uri.
-use Rattle.std.specs.Prelude.{ℕ, ◌==◌, Bool, ◌||◌, List, [], ◌∷◌, ◌++◌, Option, None, Some, length, take, drop, codes, if◌then◌else◌}
-use Rattle.std.specs.List.{position_or_len, before_first, after_first}
+-- What a target stands for: its uri, and the path, the query and the arguments of the uri.
+use Rattle.std.specs.Prelude.{ℕ, ◌==◌, Bool, ◌||◌, List, [], ◌∷◌, ◌++◌, Option, None, Some, nat_lt, length, take, drop, map, filter, codes, if◌then◌else◌}
+use Rattle.std.specs.List.{position_or_len, before_first, after_first, slice_split}
 use Rattle.std.specs.Option.{option_or, option_map_or}
 use Rattle.std.specs.Str.{str_eq_ignore_ascii_case}
 
@@ -45,3 +45,23 @@ path_of target = before_first is_question (uri_of target)
 -- the query: what follows the first `?` of the uri, or nothing
 abbrev pub query_of : List ℕ → List ℕ
 query_of target = after_first is_question (uri_of target)
+
+-- the byte `&`
+abbrev pub is_ampersand : ℕ → Bool
+is_ampersand byte = byte == 38
+
+-- the byte `=`
+abbrev pub is_equals : ℕ → Bool
+is_equals byte = byte == 61
+
+-- whether a text has a byte
+abbrev pub has_bytes : List ℕ → Bool
+has_bytes text = nat_lt 0 (length text)
+
+-- a piece of a query as an argument: its name up to the first `=`, and its value after it, or nothing
+abbrev pub argument_of : List ℕ → List ℕ × List ℕ
+argument_of piece = (before_first is_equals piece, after_first is_equals piece)
+
+-- the arguments of a query: its pieces between `&` but for the empty ones
+abbrev pub arguments_of : List ℕ → List (List ℕ × List ℕ)
+arguments_of query = map argument_of (filter has_bytes (slice_split is_ampersand query))

@@ -4,8 +4,9 @@ ghost use Rattle.std.specs.Option.{option_map};
 ghost use Rattle.std.specs.Str.{str_eq_ignore_ascii_case};
 ghost use Rattle.edge_fields.specs.Target.{is_question, ends_authority, after_front, after_scheme, after_authority, root_of, rooted, uri_of, path_of, query_of};
 
+use crate::cuts::{after, before};
 use edge_base::Request;
-use memchr::{memchr, memchr2};
+use memchr::memchr2;
 
 /// A uri, as two parts that follow one another. The first is `/` where that has to be put in front, else empty.
 #[derive(Clone, Copy)]
@@ -55,15 +56,6 @@ fn authority_len(text: &[u8]) -> usize
     memchr2(b'/', b'?', text).unwrap_or(text.len())
 }
 
-/// The place of the first `?`, or the end.
-#[tactic(auto, using(crate::proofs::PlaceLemmas::first_byte_position))]
-fn path_len(uri: &[u8]) -> usize
-    ensures value { result ≡ position_or_len is_question uri.now }
-    ensures within { result ≤ length uri.now }
-{
-    memchr(b'?', uri).unwrap_or(uri.len())
-}
-
 /// What follows an authority.
 fn after_authority(text: &[u8]) -> &[u8]
     ensures { result.now ≡ after_authority text.now }
@@ -79,25 +71,6 @@ fn root_of(text: &[u8]) -> &'static [u8]
     match text {
         [b'/', ..] => b"",
         _ => b"/",
-    }
-}
-
-/// What stands before the first `?`.
-fn before_question(uri: &[u8]) -> &[u8]
-    ensures { result.now ≡ before_first is_question uri.now }
-{
-    let (path, _) = uri.split_at(path_len(uri));
-    path
-}
-
-/// What follows the first `?`, or nothing.
-fn after_question(uri: &[u8]) -> &[u8]
-    ensures { result.now ≡ after_first is_question uri.now }
-{
-    let (_, rest) = uri.split_at(path_len(uri));
-    match rest {
-        [_, query @ ..] => query,
-        [] => rest,
     }
 }
 
@@ -137,7 +110,7 @@ pub fn path_of(request: &Request) -> &[u8]
 {
     let uri = uri_of(request);
     if uri.root.is_empty() {
-        before_question(uri.rest)
+        before(b'?', uri.rest)
     } else {
         uri.root
     }
@@ -147,5 +120,5 @@ pub fn path_of(request: &Request) -> &[u8]
 pub fn query_of(request: &Request) -> &[u8]
     ensures { result.now ≡ query_of request.now.target }
 {
-    after_question(uri_of(request).rest)
+    after(b'?', uri_of(request).rest)
 }

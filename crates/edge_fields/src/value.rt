@@ -1,4 +1,8 @@
 ghost use Rattle.std.specs.Prelude.{◌≡◌, IfOk};
+ghost use Rattle.std.specs.Map.{keys_of, values_of};
+ghost use Rattle.edge_fields.specs.Maps.{map_of};
+ghost use Rattle.edge_fields.specs.Fields.{texts};
+ghost use Rattle.edge_fields.specs.declared.value.Value.TheVariants as value;
 
 use crate::text_map::TextMap;
 use edge_base::{Addr, Memory, Text};
@@ -17,4 +21,65 @@ pub enum Value {
     Bool(bool),
     Array(Values),
     Map(TextMap),
+}
+
+/// A copy of each value, in order.
+#[cycle(copying)]
+pub fn copy_values(alloc: Global, values: &[Value]) -> Result<Values, Memory>
+    ensures { IfOk result (λ copy. copy ≡ values.now) }
+{
+    let mut copy = Items::new(alloc);
+    for value in values {
+        copy.push(value.copy(alloc)?)?;
+    }
+    Ok(copy)
+}
+
+impl Value {
+    #[cycle(copying)]
+    pub fn copy(&self, alloc: Global) -> Result<Value, Memory>
+        ensures { IfOk result (λ value. value ≡ self.now) }
+    {
+        match self {
+            Value::Text(text) => Ok(Value::Text(text.copy(alloc)?)),
+            Value::Num(number) => Ok(Value::Num(*number)),
+            Value::Addr(addr) => Ok(Value::Addr(*addr)),
+            Value::Bool(truth) => Ok(Value::Bool(*truth)),
+            Value::Array(values) => Ok(Value::Array(copy_values(alloc, values.as_slice())?)),
+            Value::Map(map) => Ok(Value::Map(map.copy(alloc)?)),
+        }
+    }
+}
+
+/// The first texts of some pairs, as an array.
+pub(crate) fn names(alloc: Global, pairs: Vec<(Text, Text)>) -> Result<Value, Memory>
+    ensures { IfOk result (λ array. array ≡ texts (keys_of pairs.items)) }
+{
+    let mut names = Items::new(alloc);
+    for (name, _) in pairs {
+        names.push(Value::Text(name))?;
+    }
+    Ok(Value::Array(names))
+}
+
+/// The second texts of some pairs, as an array.
+pub(crate) fn values(alloc: Global, pairs: Vec<(Text, Text)>) -> Result<Value, Memory>
+    ensures { IfOk result (λ array. array ≡ texts (values_of pairs.items)) }
+{
+    let mut values = Items::new(alloc);
+    for (_, value) in pairs {
+        values.push(Value::Text(value))?;
+    }
+    Ok(Value::Array(values))
+}
+
+/// The map of some pairs.
+pub(crate) fn map(alloc: Global, pairs: Vec<(Text, Text)>) -> Result<Value, Memory>
+    ensures { IfOk result (λ made. made ≡ value.Map (map_of pairs.items)) }
+{
+    let mut map = TextMap::new(alloc);
+    for (key, value) in pairs {
+        map.add(alloc, key, value)?;
+    }
+    Ok(Value::Map(map))
 }

@@ -1,0 +1,7 @@
+use Rattle.std.proofs.Common.{◌≡◌, List, ℕ, map, filter, Bor}
+use Rattle.edge_fields.specs.Target.{has_bytes, argument_of}
+use Rattle.edge_fields.proofs.arguments.arguments_of.Given as goal
+
+-- the pieces so far are taken
+abbrev pub invariant-loop-piece : goal.invariant-loop-piece
+invariant-loop-piece l = l.pairs.items ≡ map argument_of (filter has_bytes (map (λ (piece : Bor (List ℕ)). piece.now) l.yielded))
