@@ -6,6 +6,7 @@ ghost use Rattle.text_match.specs.Wildcards.{compared, IsCut};
 use memchr::memmem;
 
 /// What stands before and after a piece in a text.
+#[derive(Clone, Copy)]
 pub(crate) struct Cut<'t> {
     pub before: &'t [u8],
     pub after: &'t [u8],
