@@ -1,3 +1,6 @@
 pub mod Cuts
-pub mod Wildcards
 pub mod Marks
+pub mod Patterns
+pub mod Replacement
+pub mod Regexes
+pub mod Wildcards

@@ -1,9 +1,14 @@
-//! Whether a text matches a wildcard or a pattern, and what the stars and groups stand for.
+//! Whether a text matches a wildcard or a pattern of `regex`, and what the stars and groups stand for.
 #![tactic(auto)]
 
 mod cutting;
+mod expression;
+mod pattern;
 mod reading;
+mod replacement;
 mod wildcard;
 
+pub use pattern::{Pattern, PatternFault};
 pub use reading::WildFault;
+pub use replacement::fill;
 pub use wildcard::Wild;
