@@ -1,5 +1,5 @@
 -- Cuts of a text at a piece: their lengths, and the first of them.
-use Rattle.std.proofs.Common.{◌≡◌, ℕ, zero, ◌+◌, ◌-◌, ◌<◌, ◌≤◌, Bool, true, false, List, [], ◌∷◌, ◌++◌, Some, None, length, take, drop, refl, sym, ap, subst, ◌∙◌, arith, ⊎_elim, length-append, length-drop, length-take-le, take-append-drop, drop-drop}
+use Rattle.std.proofs.Common.{◌≡◌, ℕ, ◌+◌, ◌-◌, ◌<◌, ◌≤◌, Bool, true, false, List, [], ◌++◌, Some, None, length, take, drop, refl, sym, ap, subst, ◌∙◌, arith, ⊎_elim, length-append, length-drop, length-take-le, take-append-drop, drop-drop}
 use Rattle.std.proofs.lemmas.List.{length-map}
 use Rattle.std.proofs.Math.Seq.{take-length, take-append_seam, drop-append_seam}
 use Rattle.std.proofs.lemmas.Bool.{cases_lt}
@@ -59,8 +59,8 @@ module _ (strict : Bool) (piece text : List ℕ) where
       let low = so_far before after cut in
       ⊎_elim (λ (above : at < length before). let goes : at + 1 ≤ length before = omega arith in goes)
       (λ (up_to : length before ≤ at).
-        let here : length before ≡ at = omega arith in
-        absurd (none after (subst (λ n. IsCut strict piece (drop n text) [] after) here (cut_here before after cut))))
+      let here : length before ≡ at = omega arith in
+      absurd (none after (subst (λ n. IsCut strict piece (drop n text) [] after) here (cut_here before after cut))))
       (cases_lt at (length before))
 
   -- the piece is here, and stands nowhere before
@@ -80,10 +80,10 @@ cut_occurs : (piece text before after : List ℕ) → IsCut true piece text befo
 cut_occurs piece text before after cut =
     let long = cut-length true piece text before after cut in
     let part : take (length piece) (drop (length before) text) ≡ piece =
-      ap (λ n. take n (drop (length before) text)) (sym (ap length cut.is_piece))
-      ∙ ap (take (length cut.found)) (drop_front before (cut.found ++ after) text cut.is_text)
-      ∙ take-append_seam cut.found after
-      ∙ cut.is_piece in
+    ap (λ n. take n (drop (length before) text)) (sym (ap length cut.is_piece))
+    ∙ ap (take (length cut.found)) (drop_front before (cut.found ++ after) text cut.is_text)
+    ∙ take-append_seam cut.found after
+    ∙ cut.is_piece in
     OccursAt-from_part text piece (length before) (omega arith) part
 
 -- no occurrence, so no cut
@@ -101,11 +101,11 @@ exact_first piece text at finds = record {
     is_piece = refl;
   };
   is_first = λ others more cut.
-    let fits = finds.1.fits in
-    let long = length-take-le at text (omega arith) in
-    ⊎_elim (λ (below : length others < at). absurd (finds.0.before (length others) (omega arith) below (cut_occurs piece text others more cut)))
-    (λ (up : at ≤ length others). let goes : length (take at text) ≤ length others = omega arith in goes)
-    (cases_lt (length others) at);
+      let fits = finds.1.fits in
+      let long = length-take-le at text (omega arith) in
+      ⊎_elim (λ (below : length others < at). absurd (finds.0.before (length others) (omega arith) below (cut_occurs piece text others more cut)))
+      (λ (up : at ≤ length others). let goes : length (take at text) ≤ length others = omega arith in goes)
+      (cases_lt (length others) at);
 }
 
 -- the rest of a text, as a slice up to its end reads it

@@ -1,5 +1,5 @@
 -- What a built regex finds is what the grammar's reading of its text finds.
-use Rattle.std.proofs.Common.{◌≡◌, ℕ, zero, suc, ◌+◌, ◌*◌, ◌<◌, ◌≤◌, Bool, false, List, [], ◌∷◌, ◌++◌, map, take, drop, get_or, Option, None, Some, IsSomeAnd, is_some, option_map, refl, sym, ap, ap₂, subst, ◌∙◌, arith}
+use Rattle.std.proofs.Common.{◌≡◌, ℕ, zero, suc, ◌+◌, ◌*◌, ◌<◌, ◌≤◌, false, List, ◌∷◌, ◌++◌, map, take, drop, get_or, Option, None, Some, IsSomeAnd, is_some, option_map, refl, sym, ap, ap₂, subst, ◌∙◌, arith}
 use Rattle.std.specs.Prelude.{option_and_then}
 use Rattle.std.specs.List.{range_with_len}
 use Rattle.std.specs.Str.{chars}
@@ -132,6 +132,6 @@ pub replace_is : (text replacement : List ℕ) (c : Captures) (m : Match) (place
 replace_is text replacement c m place groups are whole is =
     let places : place ≡ span m = same_Some _ _ (whole ∙ whole_span c) ∙ are.1.whole_is in
     let all : groups ≡ groups_of text m =
-      is ∙ map_from (λ n. text_at (captures_haystack c) (captures_span c n)) (λ n. text_at text (group_of m n)) 1 8 (λ k up. ap₂ text_at are.0 (are.2 k up)) in
+    is ∙ map_from (λ n. text_at (captures_haystack c) (captures_span c n)) (λ n. text_at text (group_of m n)) 1 8 (λ k up. ap₂ text_at are.0 (are.2 k up)) in
     ap (λ gs. take place.0 text ++ (filled gs replacement ++ drop place.1 text)) all
     ∙ ap (λ (s : ℕ × ℕ). take s.0 text ++ (filled (groups_of text m) replacement ++ drop s.1 text)) places

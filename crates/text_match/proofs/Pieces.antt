@@ -1,6 +1,6 @@
 -- How a pattern is read from its front.
-use Rattle.std.proofs.Common.{◌≡◌, ℕ, ◌+◌, List, [], ◌∷◌, ◌++◌, length, refl, sym, ◌∙◌, ap, append_assoc, append-nil}
-use Rattle.text_match.specs.Wildcards.{onto_first, pieces_of}
+use Rattle.std.proofs.Common.{◌≡◌, ℕ, List, [], ◌∷◌, ◌++◌, refl, ap}
+use Rattle.text_match.specs.Wildcards.{onto_first}
 
 -- the start of the first piece, put before the rest of it and the other pieces
 abbrev pub after_start : List ℕ → List (List ℕ) → List (List ℕ)

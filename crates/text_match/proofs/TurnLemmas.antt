@@ -1,12 +1,12 @@
 -- Takes and pieces by turns: a first cut at a piece loses no match, and gives the first takes.
-use Rattle.std.proofs.Common.{◌≡◌, ℕ, ◌+◌, ◌-◌, ◌<◌, ◌≤◌, ◌↔◌, Bool, List, [], ◌∷◌, ◌++◌, length, take, drop, refl, sym, ap, subst, ◌∙◌, arith, inl, inr, ⊎_elim, length-append, length-drop, length-take-le, append_assoc, take-append-drop, drop-drop}
+use Rattle.std.proofs.Common.{◌≡◌, ℕ, ◌+◌, ◌-◌, ◌<◌, ◌≤◌, ◌↔◌, Bool, List, [], ◌∷◌, ◌++◌, length, take, drop, refl, sym, ap, subst, ◌∙◌, arith, inl, inr, ⊎_elim, length-take-le, append_assoc, take-append-drop, drop-drop}
 use Rattle.std.proofs.Common.{suc, get_or, get_or-take, Option, None, Some, Bor, IsTrue, MatchOption, Result, Ok, Err, IfOk}
-use Rattle.std.specs.Prelude.{◌⊎◌, map, is_some}
+use Rattle.std.specs.Prelude.{map, is_some}
 use Rattle.std.proofs.Math.Numerals.{add-one}
 use Rattle.std.proofs.Math.Seq.{drop-cons, drop-length}
 use Rattle.std.proofs.lemmas.Bool.{cases_lt, false≢true}
 use Rattle.text_match.specs.Cuts.{IsNowhere, IsFirstCut, HasTurns, AreFirstTurns}
-use Rattle.text_match.specs.Wildcards.{IsCut, AreTurns, Match, IsMatched, IsNoLater, First}
+use Rattle.text_match.specs.Wildcards.{IsCut, AreTurns, IsMatched, IsNoLater, First}
 use Rattle.text_match.proofs.CutLemmas.{cut-length, cut-after}
 
 -- what another cut leaves is the end of what the first cut leaves
@@ -24,10 +24,10 @@ gap_of strict piece text before after others more first cut =
     let within : n ≤ length after = omega arith in
     let place : (length before + length piece) + n ≡ length others + length piece = omega arith in
     let rest : drop n after ≡ more =
-      ap (drop n) (cut-after strict piece text before after first.is_cut)
-      ∙ drop-drop n (length before + length piece) text
-      ∙ ap (λ m. drop m text) place
-      ∙ sym (cut-after strict piece text others more cut) in
+    ap (drop n) (cut-after strict piece text before after first.is_cut)
+    ∙ drop-drop n (length before + length piece) text
+    ∙ ap (λ m. drop m text) place
+    ∙ sym (cut-after strict piece text others more cut) in
     let size = length-take-le n after within in
     record {
       gap = take n after;
@@ -69,12 +69,12 @@ step_is_least strict piece next pieces text before after takes first turns (take
     let low = first.is_first taken other.0 other.1 in
     ⊎_elim (λ (shorter : length before < length taken). inl shorter)
     (λ (up_to : length taken ≤ length before).
-      let same : length before ≡ length taken = omega arith in
-      let left : other.0 ≡ after =
-        cut-after strict piece text taken other.0 other.1
-        ∙ ap (λ n. drop (n + length piece) text) (sym same)
-        ∙ sym (cut-after strict piece text before after first.is_cut) in
-      inr (same, turns.are_least others (subst (λ rest. AreTurns strict (next ∷ pieces) rest others) left other.2)))
+    let same : length before ≡ length taken = omega arith in
+    let left : other.0 ≡ after =
+    cut-after strict piece text taken other.0 other.1
+    ∙ ap (λ n. drop (n + length piece) text) (sym same)
+    ∙ sym (cut-after strict piece text before after first.is_cut) in
+    inr (same, turns.are_least others (subst (λ rest. AreTurns strict (next ∷ pieces) rest others) left other.2)))
     (cases_lt (length before) (length taken))
 
 -- the take of a first cut, and then the first takes behind it, are the first takes
@@ -145,7 +145,7 @@ module _ (strict : Bool) (pieces : List (List ℕ)) (i : ℕ) (piece text before
   turns_forward below is first has =
       subst (λ ps. HasTurns strict ps after) (sym (two below))
       (sooner strict piece (get_or pieces (i + 1) []) (drop (suc (i + 1)) pieces) text before after first
-        (subst (λ ps. HasTurns strict ps text) (is ∙ ap (λ ps. piece ∷ ps) (two below)) has))
+      (subst (λ ps. HasTurns strict ps text) (is ∙ ap (λ ps. piece ∷ ps) (two below)) has))
 
   pub turns_back : drop i pieces ≡ piece ∷ drop (i + 1) pieces → IsFirstCut strict piece text before after → HasTurns strict (drop (i + 1) pieces) after → HasTurns strict (drop i pieces) text
   turns_back is first has =
@@ -155,7 +155,7 @@ module _ (strict : Bool) (pieces : List (List ℕ)) (i : ℕ) (piece text before
   first_back more below is first turns =
       subst (λ ps. AreFirstTurns strict ps text (before ∷ more)) (sym (is ∙ ap (λ ps. piece ∷ ps) (two below)))
       (first_step strict piece (get_or pieces (i + 1) []) (drop (suc (i + 1)) pieces) text before after more first
-        (subst (λ ps. AreFirstTurns strict ps after more) (two below) turns))
+      (subst (λ ps. AreFirstTurns strict ps after more) (two below) turns))
 
 -- the last piece is sought at the end
 pub end_decides : (strict : Bool) (piece text : List ℕ) (found : Option (Bor (List ℕ))) (answer : Bool) → answer ≡ is_some found → MatchOption found ((before : List ℕ) → ¬ (IsCut strict piece text before [])) (λ before. IsCut strict piece text before.now []) → IsTrue answer ↔ HasTurns strict (piece ∷ []) text

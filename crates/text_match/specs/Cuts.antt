@@ -1,5 +1,5 @@
 -- Where the pieces of a wildcard stand in a text, one by one.
-use Rattle.std.specs.Prelude.{◌≡◌, ℕ, ◌≤◌, Bool, List, [], length, map}
+use Rattle.std.specs.Prelude.{ℕ, ◌≤◌, Bool, List, length, map}
 use Rattle.text_match.specs.Wildcards.{IsCut, AreTurns, IsNoLater}
 
 -- the piece stands nowhere in the text

@@ -1,5 +1,5 @@
 -- Patterns: which texts are patterns of `regex`, what they match in a text of bytes, and how a match is replaced.
-use Rattle.std.specs.Prelude.{ℕ, ◌≤◌, List, [], ◌∷◌, ◌++◌, map, take, drop, Option, None, Some, IsSomeAnd, option_and_then, slice_range, IsUtf8, false}
+use Rattle.std.specs.Prelude.{ℕ, ◌≤◌, List, [], ◌++◌, map, take, drop, Option, None, Some, IsSomeAnd, option_and_then, slice_range, IsUtf8, false}
 use Rattle.std.specs.List.{range_with_len}
 use Rattle.std.specs.Str.{chars}
 use Rattle.regex_syntax.specs.Grammar.{read}

@@ -6,9 +6,13 @@ mod expression;
 mod pattern;
 mod reading;
 mod replacement;
+mod sharing;
+#[cfg(test)]
+mod tests;
 mod wildcard;
 
 pub use pattern::{Pattern, PatternFault};
 pub use reading::WildFault;
 pub use replacement::fill;
+pub use sharing::{patterns_are_shared, wildcards_are_shared};
 pub use wildcard::Wild;

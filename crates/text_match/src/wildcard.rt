@@ -126,12 +126,7 @@ impl Wild {
     }
 
     /// The first takes: what the stars stand for, where the earlier stars take as little as they can.
-    pub fn takes(
-        &self,
-        alloc: Global,
-        text: &[u8],
-        strict: bool,
-    ) -> Result<Option<Texts>, Memory>
+    pub fn takes(&self, alloc: Global, text: &[u8], strict: bool) -> Result<Option<Texts>, Memory>
         ensures { IfOk result (λ found. MatchOption found (¬ (IsMatched self.now strict text.now)) (λ takes. First self.now strict text.now takes)) }
     {
         match after_front(text, self.first.bytes(), strict) {

@@ -1,6 +1,5 @@
 -- The first occurrence is the first cut.
-use Rattle.std.proofs.Common.{◌+◌, ◌-◌, ◌≤◌, length, drop, length-drop, subst, sym, ap, ◌∙◌, arith}
-use Rattle.std.proofs.Math.Seq.{take-length}
+use Rattle.std.proofs.Common.{◌+◌, length, subst, sym}
 use Rattle.std.proofs.Common.{take, true}
 use Rattle.text_match.specs.Cuts.{IsFirstCut}
 use Rattle.text_match.proofs.CutLemmas.{exact_none, exact_first, take_rest}

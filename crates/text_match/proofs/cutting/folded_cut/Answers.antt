@@ -1,5 +1,5 @@
 -- Each place is tried in order.
-use Rattle.std.proofs.Common.{◌+◌, ◌≤◌, length, false, [], List, ℕ, subst, sym, arith}
+use Rattle.std.proofs.Common.{false, [], List, ℕ, subst, sym, arith}
 use Rattle.text_match.specs.Cuts.{IsFirstCut}
 use Rattle.text_match.specs.Wildcards.{IsCut}
 use Rattle.text_match.proofs.CutLemmas.{further_on, first_here, nowhere_beyond}
@@ -21,8 +21,8 @@ pub returns : goal.returns
 returns c =
     let text = c.args.text.now in let piece = c.args.piece.now in
     elim c.loop-at-test.branch [
-      else-loop-at-test w ↦ nowhere_beyond false piece text (λ before after cut. let low = c.loop-at.invariant before after cut in omega arith)
-    | then-loop-at-test+in_default+else-at-at-end w ↦
-        let further = further_on false piece text c.loop-at.at c.loop-at.invariant (subst (λ rest. (after : List ℕ) → ¬ (IsCut false piece rest [] after)) w.split_at.ensures.back w.in_default.ensures) in
-        nowhere_beyond false piece text (λ before after cut. let low = further before after cut in omega arith)
+      | else-loop-at-test w ↦ nowhere_beyond false piece text (λ before after cut. let low = c.loop-at.invariant before after cut in omega arith)
+      | then-loop-at-test+in_default+else-at-at-end w ↦
+          let further = further_on false piece text c.loop-at.at c.loop-at.invariant (subst (λ rest. (after : List ℕ) → ¬ (IsCut false piece rest [] after)) w.split_at.ensures.back w.in_default.ensures) in
+          nowhere_beyond false piece text (λ before after cut. let low = further before after cut in omega arith)
     ]

@@ -2,7 +2,6 @@
 use Rattle.std.proofs.Common.{◌≡◌, ◌≤◌, IsSomeAnd, subst, ◌∙◌}
 use Rattle.std.specs.Str.{chars}
 use Rattle.regex_syntax.specs.Grammar.{read}
-use Rattle.regex.specs.Sources.{IsRefusal}
 use Rattle.regex.specs.Failures.{IsRightKind}
 use Rattle.text_match.specs.declared.pattern.PatternFault.TheVariants.{Syntax, Size}
 use Rattle.text_match.specs.Patterns.{bytes_config, IsPattern}
@@ -12,9 +11,10 @@ use Rattle.text_match.proofs.pattern.Pattern.build.Goals as goal
 
 pub returns-in-Ok-new-2-clause-is_pattern : goal.returns-in-Ok-new-2-clause-is_pattern
 returns-in-Ok-new-2-clause-is_pattern c =
-    let known : IsOfItsText c.in-Ok-new.regex = record { config = c.in-Ok-new.ensures.config; is_read = c.in-Ok-new.ensures.read } in
-    (c.in-Ok.ensures.cases.1,
-     subst (λ text. IsSomeAnd (read bytes_config (chars text)) (λ (re, _). re.depth ≤ bytes_config.nest_limit)) (c.in-Ok-new.ensures.source ∙ c.in-Ok.ensures.cases.0) (built_of_pattern c.in-Ok-new.regex known))
+    let known : IsOfItsText c.in-Ok-new.regex = record { config = c.in-Ok-new.ensures.config; is_read = c.in-Ok-new.ensures.read } in (
+      c.in-Ok.ensures.cases.1,
+      subst (λ text. IsSomeAnd (read bytes_config (chars text)) (λ (re, _). re.depth ≤ bytes_config.nest_limit)) (c.in-Ok-new.ensures.source ∙ c.in-Ok.ensures.cases.0) (built_of_pattern c.in-Ok-new.regex known),
+    )
 
 pub returns-in-Err-clause-syntax : goal.returns-in-Err-clause-syntax
 returns-in-Err-clause-syntax c =
