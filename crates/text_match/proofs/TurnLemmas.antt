@@ -1,0 +1,191 @@
+-- Takes and pieces by turns: a first cut at a piece loses no match, and gives the first takes.
+use Rattle.std.proofs.Common.{◌≡◌, ℕ, ◌+◌, ◌-◌, ◌<◌, ◌≤◌, ◌↔◌, Bool, List, [], ◌∷◌, ◌++◌, length, take, drop, refl, sym, ap, subst, ◌∙◌, arith, inl, inr, ⊎_elim, length-take-le, append_assoc, take-append-drop, drop-drop}
+use Rattle.std.proofs.Common.{suc, get_or, get_or-take, Option, None, Some, Bor, IsTrue, MatchOption, Result, Ok, Err, IfOk}
+use Rattle.std.specs.Prelude.{map, is_some}
+use Rattle.std.proofs.Math.Numerals.{add-one}
+use Rattle.std.proofs.Math.Seq.{drop-cons, drop-length}
+use Rattle.std.proofs.lemmas.Bool.{cases_lt, false≢true}
+use Rattle.text_match.specs.Cuts.{IsNowhere, IsFirstCut, HasTurns, AreFirstTurns}
+use Rattle.text_match.specs.Wildcards.{IsCut, AreTurns, IsMatched, IsNoLater, First}
+use Rattle.text_match.proofs.CutLemmas.{cut-length, cut-after}
+
+-- what another cut leaves is the end of what the first cut leaves
+pub record Gap (before after others more : List ℕ) : Type 0 where
+  pub gap : List ℕ
+  pub is_after : after ≡ gap ++ more
+  pub is_others : length before + length gap ≡ length others
+
+pub gap_of : (strict : Bool) (piece text before after others more : List ℕ) → IsFirstCut strict piece text before after → IsCut strict piece text others more → Gap before after others more
+gap_of strict piece text before after others more first cut =
+    let low = first.is_first others more cut in
+    let long = cut-length strict piece text before after first.is_cut in
+    let also = cut-length strict piece text others more cut in
+    let n : ℕ = length others - length before in
+    let within : n ≤ length after = omega arith in
+    let place : (length before + length piece) + n ≡ length others + length piece = omega arith in
+    let rest : drop n after ≡ more =
+    ap (drop n) (cut-after strict piece text before after first.is_cut)
+    ∙ drop-drop n (length before + length piece) text
+    ∙ ap (λ m. drop m text) place
+    ∙ sym (cut-after strict piece text others more cut) in
+    let size = length-take-le n after within in
+    record {
+      gap = take n after;
+      is_after = sym (take-append-drop n after) ∙ ap (λ end. take n after ++ end) rest;
+      is_others = omega arith;
+    }
+
+-- turns that begin further on begin here too, with a longer first take
+longer : (strict : Bool) (piece : List ℕ) (pieces : List (List ℕ)) (gap text more : List ℕ) (takes : List (List ℕ)) → text ≡ gap ++ more → AreTurns strict (piece ∷ pieces) more takes → HasTurns strict (piece ∷ pieces) text
+longer strict piece pieces gap text more [] is turns = absurd turns
+longer strict piece pieces gap text more (taken ∷ takes) is turns =
+    let cut : IsCut strict piece text (gap ++ taken) turns.0 = record {
+      found = turns.1.found;
+      is_text = is ∙ ap (λ end. gap ++ end) turns.1.is_text ∙ sym (append_assoc gap taken (turns.1.found ++ turns.0));
+      is_piece = turns.1.is_piece;
+    } in
+    ((gap ++ taken) ∷ takes, (turns.0, cut, turns.2))
+
+-- no cut, no turns
+pub no_turns : (strict : Bool) (piece : List ℕ) (pieces : List (List ℕ)) (text : List ℕ) → IsNowhere strict piece text → ¬ (HasTurns strict (piece ∷ pieces) text)
+no_turns strict piece pieces text none ([], turns) = absurd turns
+no_turns strict piece pieces text none (taken ∷ takes, turns) = none taken turns.0 turns.1
+
+-- a first cut loses no match
+pub sooner : (strict : Bool) (piece next : List ℕ) (pieces : List (List ℕ)) (text before after : List ℕ) → IsFirstCut strict piece text before after → HasTurns strict (piece ∷ next ∷ pieces) text → HasTurns strict (next ∷ pieces) after
+sooner strict piece next pieces text before after first ([], turns) = absurd turns
+sooner strict piece next pieces text before after first (taken ∷ takes, turns) =
+    let gap = gap_of strict piece text before after taken turns.0 first turns.1 in
+    longer strict next pieces gap.gap after turns.0 takes gap.is_after turns.2
+
+-- and what matches behind it matches with it
+pub later : (strict : Bool) (piece : List ℕ) (pieces : List (List ℕ)) (text before after : List ℕ) → IsCut strict piece text before after → HasTurns strict pieces after → HasTurns strict (piece ∷ pieces) text
+later strict piece pieces text before after cut has = (before ∷ has.0, (after, cut, has.1))
+
+-- the take of a first cut is no longer than another first take, and where it is as long, both leave the same
+step_is_least : (strict : Bool) (piece next : List ℕ) (pieces : List (List ℕ)) (text before after : List ℕ) (takes : List (List ℕ)) → IsFirstCut strict piece text before after → AreFirstTurns strict (next ∷ pieces) after takes → (others : List (List ℕ)) → AreTurns strict (piece ∷ next ∷ pieces) text others → IsNoLater (map length (before ∷ takes)) (map length others)
+step_is_least strict piece next pieces text before after takes first turns [] other = absurd other
+step_is_least strict piece next pieces text before after takes first turns (taken ∷ others) other =
+    let low = first.is_first taken other.0 other.1 in
+    ⊎_elim (λ (shorter : length before < length taken). inl shorter)
+    (λ (up_to : length taken ≤ length before).
+    let same : length before ≡ length taken = omega arith in
+    let left : other.0 ≡ after =
+    cut-after strict piece text taken other.0 other.1
+    ∙ ap (λ n. drop (n + length piece) text) (sym same)
+    ∙ sym (cut-after strict piece text before after first.is_cut) in
+    inr (same, turns.are_least others (subst (λ rest. AreTurns strict (next ∷ pieces) rest others) left other.2)))
+    (cases_lt (length before) (length taken))
+
+-- the take of a first cut, and then the first takes behind it, are the first takes
+pub first_step : (strict : Bool) (piece next : List ℕ) (pieces : List (List ℕ)) (text before after : List ℕ) (takes : List (List ℕ)) → IsFirstCut strict piece text before after → AreFirstTurns strict (next ∷ pieces) after takes → AreFirstTurns strict (piece ∷ next ∷ pieces) text (before ∷ takes)
+first_step strict piece next pieces text before after takes first turns = record {
+  are_turns = (after, first.is_cut, turns.are_turns);
+  are_least = step_is_least strict piece next pieces text before after takes first turns;
+}
+
+-- the last piece stands at the end of the text
+pub at_end : (strict : Bool) (piece text before : List ℕ) → IsCut strict piece text before [] → AreTurns strict (piece ∷ []) text (before ∷ [])
+at_end strict piece text before cut = ([], cut, refl)
+
+pub not_at_end : (strict : Bool) (piece text : List ℕ) → ((before : List ℕ) → ¬ (IsCut strict piece text before [])) → ¬ (HasTurns strict (piece ∷ []) text)
+not_at_end strict piece text none ([], turns) = absurd turns
+not_at_end strict piece text none (taken ∷ [], turns) = none taken (subst (λ rest. IsCut strict piece text taken rest) turns.2 turns.1)
+not_at_end strict piece text none (taken ∷ more ∷ takes, turns) = absurd turns.2
+
+last_is_least : (strict : Bool) (piece text before : List ℕ) → IsCut strict piece text before [] → (others : List (List ℕ)) → AreTurns strict (piece ∷ []) text others → IsNoLater (length before ∷ []) (map length others)
+last_is_least strict piece text before cut [] other = absurd other
+last_is_least strict piece text before cut (taken ∷ []) other =
+    let long = cut-length strict piece text before [] cut in
+    let also = cut-length strict piece text taken other.0 other.1 in
+    let none = ap length other.2 in
+    let same : length before ≡ length taken = omega arith in
+    inr (same, tt)
+last_is_least strict piece text before cut (taken ∷ more ∷ others) other = absurd other.2
+
+pub first_at_end : (strict : Bool) (piece text before : List ℕ) → IsCut strict piece text before [] → AreFirstTurns strict (piece ∷ []) text (before ∷ [])
+first_at_end strict piece text before cut = record {
+  are_turns = at_end strict piece text before cut;
+  are_least = last_is_least strict piece text before cut;
+}
+
+-- without pieces the text is at its end
+pub no_pieces : (strict : Bool) (text : List ℕ) → HasTurns strict [] text → text ≡ []
+no_pieces strict text ([], turns) = turns
+no_pieces strict text (taken ∷ takes, turns) = absurd turns
+
+none_is_least : (strict : Bool) (text : List ℕ) (others : List (List ℕ)) → AreTurns strict [] text others → IsNoLater [] (map length others)
+none_is_least strict text others other = tt
+
+pub first_of_none : (strict : Bool) (text : List ℕ) → text ≡ [] → AreFirstTurns strict [] text []
+first_of_none strict text is = record { are_turns = is; are_least = none_is_least strict text }
+
+-- a piece before the last, and those from it on
+pub drop_middle : (pieces : List (List ℕ)) (i : ℕ) (piece got other : List ℕ) → i < length pieces - 1 → piece ≡ got → got ≡ get_or (take (length pieces - 1) pieces) i other → drop i pieces ≡ piece ∷ drop (i + 1) pieces
+drop_middle pieces i piece got other below is got_is =
+    drop-cons pieces i other (omega arith)
+    ∙ ap (λ n. get_or pieces i other ∷ drop n pieces) (sym (add-one i))
+    ∙ ap (λ first. first ∷ drop (i + 1) pieces) (sym (is ∙ got_is ∙ get_or-take (length pieces - 1) pieces i other below))
+
+-- the last piece alone
+pub drop_last : (pieces : List (List ℕ)) (i : ℕ) (piece got other : List ℕ) → i + 1 ≡ length pieces → piece ≡ got → got ≡ get_or pieces (length pieces - 1) other → drop i pieces ≡ piece ∷ []
+drop_last pieces i piece got other all is got_is =
+    let place : length pieces - 1 ≡ i = omega arith in
+    drop-cons pieces i other (omega arith)
+    ∙ ap (λ n. get_or pieces i other ∷ drop n pieces) (sym (add-one i) ∙ all)
+    ∙ ap (λ rest. get_or pieces i other ∷ rest) (drop-length pieces)
+    ∙ ap (λ first. first ∷ []) (sym (is ∙ got_is ∙ ap (λ n. get_or pieces n other) place))
+
+module _ (strict : Bool) (pieces : List (List ℕ)) (i : ℕ) (piece text before after : List ℕ) where
+  -- the pieces behind this one begin with a piece too
+  two : i < length pieces - 1 → drop (i + 1) pieces ≡ get_or pieces (i + 1) [] ∷ drop (suc (i + 1)) pieces
+  two below = drop-cons pieces (i + 1) [] (omega arith)
+
+  pub turns_forward : i < length pieces - 1 → drop i pieces ≡ piece ∷ drop (i + 1) pieces → IsFirstCut strict piece text before after → HasTurns strict (drop i pieces) text → HasTurns strict (drop (i + 1) pieces) after
+  turns_forward below is first has =
+      subst (λ ps. HasTurns strict ps after) (sym (two below))
+      (sooner strict piece (get_or pieces (i + 1) []) (drop (suc (i + 1)) pieces) text before after first
+      (subst (λ ps. HasTurns strict ps text) (is ∙ ap (λ ps. piece ∷ ps) (two below)) has))
+
+  pub turns_back : drop i pieces ≡ piece ∷ drop (i + 1) pieces → IsFirstCut strict piece text before after → HasTurns strict (drop (i + 1) pieces) after → HasTurns strict (drop i pieces) text
+  turns_back is first has =
+      subst (λ ps. HasTurns strict ps text) (sym is) (later strict piece (drop (i + 1) pieces) text before after first.is_cut has)
+
+  pub first_back : (more : List (List ℕ)) → i < length pieces - 1 → drop i pieces ≡ piece ∷ drop (i + 1) pieces → IsFirstCut strict piece text before after → AreFirstTurns strict (drop (i + 1) pieces) after more → AreFirstTurns strict (drop i pieces) text (before ∷ more)
+  first_back more below is first turns =
+      subst (λ ps. AreFirstTurns strict ps text (before ∷ more)) (sym (is ∙ ap (λ ps. piece ∷ ps) (two below)))
+      (first_step strict piece (get_or pieces (i + 1) []) (drop (suc (i + 1)) pieces) text before after more first
+      (subst (λ ps. AreFirstTurns strict ps after more) (two below) turns))
+
+-- the last piece is sought at the end
+pub end_decides : (strict : Bool) (piece text : List ℕ) (found : Option (Bor (List ℕ))) (answer : Bool) → answer ≡ is_some found → MatchOption found ((before : List ℕ) → ¬ (IsCut strict piece text before [])) (λ before. IsCut strict piece text before.now []) → IsTrue answer ↔ HasTurns strict (piece ∷ []) text
+end_decides strict piece text None answer is none = (λ yes. absurd (false≢true (sym is ∙ yes)), λ has. absurd (not_at_end strict piece text none has))
+end_decides strict piece text (Some before) answer is cut = (λ _. (before.now ∷ [], at_end strict piece text before.now cut), λ _. is)
+
+module _ (strict : Bool) (first : List ℕ) (pieces : List (List ℕ)) (text : List ℕ) where
+  -- without the first piece there is no match
+  pub front_needed : ((after : List ℕ) → ¬ (IsCut strict first text [] after)) → ¬ (IsMatched (first ∷ pieces) strict text)
+  front_needed none has = none has.1.0 has.1.1
+
+  behind : (rest more : List ℕ) (takes : List (List ℕ)) → IsCut strict first text [] rest → IsCut strict first text [] more → AreTurns strict pieces more takes → AreTurns strict pieces rest takes
+  behind rest more takes cut other turns =
+      subst (λ end. AreTurns strict pieces end takes) (cut-after strict first text [] more other ∙ sym (cut-after strict first text [] rest cut)) turns
+
+  -- behind the first piece there are the turns
+  pub front_decides : (rest : List ℕ) → IsCut strict first text [] rest → HasTurns strict pieces rest ↔ IsMatched (first ∷ pieces) strict text
+  front_decides rest cut = (λ has. (has.0, (rest, cut, has.1)), λ match. (match.0, behind rest match.1.0 match.0 cut match.1.1 match.1.2))
+
+  pub front_first : (rest : List ℕ) (takes : List (List ℕ)) → IsCut strict first text [] rest → AreFirstTurns strict pieces rest takes → First (first ∷ pieces) strict text takes
+  front_first rest takes cut turns = record {
+    is_match = (rest, cut, turns.are_turns);
+    is_least = λ others match. turns.are_least others (behind rest match.0 others cut match.1 match.2);
+  }
+
+  -- what is known of the takes behind the first piece is known of all
+  pub front_takes : (rest : List ℕ) (found : Option (List (List ℕ))) → IsCut strict first text [] rest → MatchOption found (¬ (HasTurns strict pieces rest)) (λ takes. AreFirstTurns strict pieces rest takes) → MatchOption found (¬ (IsMatched (first ∷ pieces) strict text)) (λ takes. First (first ∷ pieces) strict text takes)
+  front_takes rest None cut none = λ match. none ((front_decides rest cut).1 match)
+  front_takes rest (Some takes) cut turns = front_first rest takes cut turns
+
+  pub front_ok : {E : Type 0} (rest : List ℕ) (result : Result (Option (List (List ℕ))) E) → IsCut strict first text [] rest → IfOk result (λ found. MatchOption found (¬ (HasTurns strict pieces rest)) (λ takes. AreFirstTurns strict pieces rest takes)) → IfOk result (λ found. MatchOption found (¬ (IsMatched (first ∷ pieces) strict text)) (λ takes. First (first ∷ pieces) strict text takes))
+  front_ok rest (Ok found) cut known = front_takes rest found cut known
+  front_ok rest (Err error) cut known = tt

@@ -1,0 +1,18 @@
+//! Whether a text matches a wildcard or a pattern of `regex`, and what the stars and groups stand for.
+#![tactic(auto)]
+
+mod cutting;
+mod expression;
+mod pattern;
+mod reading;
+mod replacement;
+mod sharing;
+#[cfg(test)]
+mod tests;
+mod wildcard;
+
+pub use pattern::{Pattern, PatternFault};
+pub use reading::WildFault;
+pub use replacement::fill;
+pub use sharing::{patterns_are_shared, wildcards_are_shared};
+pub use wildcard::Wild;
