@@ -1,0 +1,5 @@
+pub mod Hash
+pub mod KeyParts
+pub mod Keys
+pub mod Window
+pub mod History

@@ -1,0 +1,11 @@
+//! How a limit counts: what a step is asked for, what it is told, and the window rule over the list of all steps.
+//! Every counter of `edge` is measured against the definitions that stand here, in `specs/`.
+#![tactic(auto)]
+
+mod entry;
+mod hash;
+mod key;
+
+pub use entry::{Answer, Ask, Counted, Counts, Entry};
+pub use hash::fnv1a64;
+pub use key::{Key, lane_of};
