@@ -1,1 +1,5 @@
 pub mod HashLemmas
+pub mod KeyLemmas
+pub mod Distinct
+pub mod WindowLemmas
+pub mod AliveLemmas

@@ -2,4 +2,5 @@ pub mod Hash
 pub mod KeyParts
 pub mod Keys
 pub mod Window
+pub mod Alive
 pub mod History

@@ -30,9 +30,13 @@ entries_of key history = filter (λ entry. same_key key entry.key) history
 abbrev pub entries_in : ℕ → ℕ → List Entry → List Entry
 entries_in lanes lane history = filter (λ entry. lane_of_key lanes entry.key == lane) history
 
+-- the greater of a moment and the greatest of these entries
+abbrev pub latest_of : ℕ → List Entry → ℕ
+latest_of moment entries = fold max moment (map (λ entry. entry.at) entries)
+
 -- the moment of a step: the greater of the one that it asks and the greatest of its lane
 abbrev pub moment_of : ℕ → List Entry → KeyParts → ℕ → ℕ
-moment_of lanes history key asked = fold max asked (map (λ entry. entry.at) (entries_in lanes (lane_of_key lanes key) history))
+moment_of lanes history key asked = latest_of asked (entries_in lanes (lane_of_key lanes key) history)
 
 -- the entry added, was let through, and its period has not ended
 abbrev pub is_counted : ℕ → Entry → Bool

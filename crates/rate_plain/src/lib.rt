@@ -5,6 +5,7 @@
 mod entry;
 mod hash;
 mod key;
+mod window;
 
 pub use entry::{Answer, Ask, Counted, Counts, Entry};
 pub use hash::fnv1a64;
