@@ -3,3 +3,4 @@ pub mod KeyLemmas
 pub mod Distinct
 pub mod WindowLemmas
 pub mod AliveLemmas
+pub mod LaneLemmas

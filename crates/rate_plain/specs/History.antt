@@ -1,5 +1,7 @@
 -- The history of all steps, as every counter stands for it.
-use Rattle.std.specs.Prelude.{◌≡◌, ℕ, ◌<◌, ◌==◌, List, filter, length, take, slice_index_or}
+use Rattle.std.specs.Prelude.{◌≡◌, ℕ, ◌<◌, ◌==◌, List, All, filter, length, take, slice_index_or}
+use Rattle.rate_plain.specs.KeyParts.{KeyParts}
+use Rattle.rate_plain.specs.Keys.{lane_of_key}
 use Rattle.rate_plain.specs.Window.{moment_of, reply_of}
 use Rattle.rate_plain.specs.declared.entry.Ask.{Ask}
 use Rattle.rate_plain.specs.declared.entry.Entry.{Entry}
@@ -31,3 +33,7 @@ IsLegal lanes cap history = (k : ℕ) (d : Entry) → k < length history → Fol
 -- the entries of a caller
 abbrev pub own_of : List Entry → ℕ → List Entry
 own_of history caller = filter (λ entry. entry.caller == caller) history
+
+-- the entries are all of this key's lane
+abbrev pub AreOneLane : ℕ → KeyParts → List Entry → Type 0
+AreOneLane lanes key history = All (λ entry. lane_of_key lanes entry.key ≡ lane_of_key lanes key) history

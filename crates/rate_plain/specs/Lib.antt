@@ -4,3 +4,4 @@ pub mod Keys
 pub mod Window
 pub mod Alive
 pub mod History
+pub mod Plain

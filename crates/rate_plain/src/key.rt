@@ -1,5 +1,5 @@
 ghost use Rattle.std.specs.Prelude.{◌≡◌, ◌≤◌, IfOk};
-ghost use Rattle.rate_plain.specs.Keys.{same_key, key_bytes, lane_of_key};
+ghost use Rattle.rate_plain.specs.Keys.{key_bytes, lane_of_key};
 ghost use Rattle.rate_plain.specs.Hash.{fnv1a64_of};
 
 use crate::hash::{fnv1a64, fnv1a64_on};
@@ -41,13 +41,6 @@ impl Key {
             timeout: self.timeout,
             values: self.values.copy(alloc)?,
         })
-    }
-
-    /// Whether the two are equal in each part. Takes no memory.
-    pub fn is_same(&self, other: &Key) -> bool
-        ensures { result ≡ same_key self.now other.now }
-    {
-        self == other
     }
 }
 
