@@ -1,11 +1,13 @@
 -- What a step is told depends on its own lane alone, and on how many lanes there are not at all where all is of one.
-use Rattle.std.proofs.Common.{◌≡◌, ℕ, ◌+◌, max, Bool, true, false, cond, not, ◌&&◌, ◌||◌, ◌==◌, nat_lt, nat_le, List, [], ◌∷◌, map, filter, sum_by, All, is_some, refl, sym, ap, ◌∙◌, eq-eqb, eqb-true}
+use Rattle.std.proofs.Common.{◌≡◌, ℕ, ◌+◌, max, Bool, true, false, cond, not, ◌&&◌, ◌||◌, ◌==◌, nat_lt, nat_le, List, [], ◌∷◌, map, filter, sum_by, get_or, All, is_some, refl, sym, ap, ◌∙◌, eq-eqb, eqb-true}
 use Rattle.std.specs.List.{reduce, filter_map}
 use Rattle.std.specs.Set.{distinct_count}
 use Rattle.std.proofs.lemmas.Bool.{false_from_ne_true, true≢false}
-use Rattle.std.proofs.lemmas.List.Elements.{All-head, All-tail}
+use Rattle.std.proofs.lemmas.List.Elements.{All-head, All-tail, filter_passes}
+use Rattle.std.proofs.Math.Nat.{mod-one}
 use Rattle.rate_plain.specs.KeyParts.{KeyParts}
-use Rattle.rate_plain.specs.Keys.{same_key, lane_of_key}
+use Rattle.rate_plain.specs.Hash.{fnv1a64_of}
+use Rattle.rate_plain.specs.Keys.{same_key, key_bytes, lane_of_key}
 use Rattle.rate_plain.specs.Window.{end_of, entries_of, entries_in, latest_of, moment_of, is_counted, weight_of, counted_of, held_until, is_live, live_count, held_or, answer_at, reply_of}
 use Rattle.rate_plain.specs.History.{AreOneLane}
 use Rattle.rate_plain.proofs.KeyLemmas.{same_lane}
@@ -103,3 +105,23 @@ reply_of-one lanes other cap history ask one two =
     (cond (not (is_live ask.key at history) && nat_le cap (distinct_count same_key (filter (λ k. is_live k at history) (map (λ e. e.key) (same i))))) Full
     (cond (counted_of ask.key at history == ask.key.threshold) (Over (at + ask.key.timeout))
     Pass))))
+
+-- the entries of a lane are all of it, and any are of the only lane
+lane_is_one : (lanes : ℕ) (key : KeyParts) (history : List Entry) → AreOneLane lanes key (entries_in lanes (lane_of_key lanes key) history)
+lane_is_one lanes key history k d below =
+    eqb-true _ _ (filter_passes (λ e. lane_of_key lanes e.key == lane_of_key lanes key) history k d below)
+
+only_lane : (key : KeyParts) (entries : List Entry) → AreOneLane 1 key entries
+only_lane key entries k d below =
+    mod-one (fnv1a64_of (key_bytes (get_or entries k d).key)) ∙ sym (mod-one (fnv1a64_of (key_bytes key)))
+
+-- a lane by itself gives the moment and the answer of the whole
+pub moment_of-alone : (lanes : ℕ) (history : List Entry) (key : KeyParts) (asked : ℕ) → moment_of 1 (entries_in lanes (lane_of_key lanes key) history) key asked ≡ moment_of lanes history key asked
+moment_of-alone lanes history key asked =
+    let own = entries_in lanes (lane_of_key lanes key) history in
+    moment_of-one 1 lanes own key asked (only_lane key own) (lane_is_one lanes key history) ∙ moment_of-lane lanes history key asked
+
+pub reply_of-alone : (lanes cap : ℕ) (history : List Entry) (ask : Ask) → reply_of 1 cap (entries_in lanes (lane_of_key lanes ask.key) history) ask ≡ reply_of lanes cap history ask
+reply_of-alone lanes cap history ask =
+    let own = entries_in lanes (lane_of_key lanes ask.key) history in
+    reply_of-one 1 lanes cap own ask (only_lane ask.key own) (lane_is_one lanes ask.key history) ∙ reply_of-lane lanes cap history ask

@@ -4,3 +4,6 @@ pub mod Distinct
 pub mod WindowLemmas
 pub mod AliveLemmas
 pub mod LaneLemmas
+pub mod BytesLemmas
+pub mod LegalLemmas
+pub mod BoundLemmas

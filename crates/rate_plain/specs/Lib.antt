@@ -5,3 +5,4 @@ pub mod Window
 pub mod Alive
 pub mod History
 pub mod Plain
+pub mod Laws
