@@ -38,9 +38,10 @@ end_earlier at later before Full h = h
 
 alive_earlier : (at later : ℕ) → at ≤ later → (entry : Entry) → is_alive later entry ≡ true → is_alive at entry ≡ true
 alive_earlier at later before entry h =
-    elim (or_cases (is_counted later entry) (is_some (end_above later entry.answer)) h) as (λ _. is_alive at entry ≡ true)
-    [ inl counts ↦ or_left (is_counted at entry) (is_some (end_above at entry.answer)) (counted_earlier at later before entry counts)
-    | inr told ↦ or_right (is_counted at entry) (is_some (end_above at entry.answer)) (end_earlier at later before entry.answer told) ]
+    elim (or_cases (is_counted later entry) (is_some (end_above later entry.answer)) h) as (λ _. is_alive at entry ≡ true) [
+      | inl counts ↦ or_left (is_counted at entry) (is_some (end_above at entry.answer)) (counted_earlier at later before entry counts)
+      | inr told ↦ or_right (is_counted at entry) (is_some (end_above at entry.answer)) (end_earlier at later before entry.answer told)
+    ]
 
 has_alive_earlier : (at later : ℕ) → at ≤ later → (key : KeyParts) (history : List Entry) → has_alive key later history ≡ true → has_alive key at history ≡ true
 has_alive_earlier at later before key history =
@@ -72,7 +73,7 @@ latest_after lanes lane asked before entry = by (lane_of_key lanes entry.key == 
 entry_before : (lanes lane asked : ℕ) (before : List Entry) (entry : Entry) → lane_of_key lanes entry.key ≡ lane → entry.at ≤ latest_of asked (entries_in lanes lane (before ++ entry ∷ []))
 entry_before lanes lane asked before entry has =
     let pushed : latest_of asked (entries_in lanes lane (before ++ entry ∷ [])) ≡ max (latest_of asked (entries_in lanes lane before)) entry.at =
-      latest_push lanes lane asked before entry ∙ ap (λ b. cond b (max (latest_of asked (entries_in lanes lane before)) entry.at) (latest_of asked (entries_in lanes lane before))) (eq-eqb (lane_of_key lanes entry.key) lane has) in
+    latest_push lanes lane asked before entry ∙ ap (λ b. cond b (max (latest_of asked (entries_in lanes lane before)) entry.at) (latest_of asked (entries_in lanes lane before))) (eq-eqb (lane_of_key lanes entry.key) lane has) in
     omega (arith, pushed)
 
 -- an adding step that was let through found its key below the threshold

@@ -21,7 +21,7 @@ split_at_zero (x ∷ xs) (y ∷ ys) us vs p q e =
 split_number : (m n : ℕ) (us vs : List ℕ) → m < 2 ^ 64 → n < 2 ^ 64 → to_be_bytes w64 m ++ us ≡ to_be_bytes w64 n ++ vs → (m ≡ n) × (us ≡ vs)
 split_number m n us vs small little e =
     let bytes : to_be_bytes w64 m ≡ to_be_bytes w64 n =
-      sym (take_at (to_be_bytes w64 m) us 8 refl) ∙ ap (take 8) e ∙ take_at (to_be_bytes w64 n) vs 8 refl in
+    sym (take_at (to_be_bytes w64 m) us 8 refl) ∙ ap (take 8) e ∙ take_at (to_be_bytes w64 n) vs 8 refl in
     let number = sym (from_be_bytes-to_be_bytes_8 m small) ∙ ap (from_be_bytes w64) bytes ∙ from_be_bytes-to_be_bytes_8 n little in
     (number, sym (drop_at (to_be_bytes w64 m) us 8 refl) ∙ ap (drop 8) e ∙ drop_at (to_be_bytes w64 n) vs 8 refl)
 

@@ -13,13 +13,13 @@ ask_of entry = record { key = entry.key; asked = entry.asked; adds = entry.adds 
 -- the entry that a caller's ask makes after these
 abbrev pub entry_of : ℕ → ℕ → List Entry → ℕ → Ask → Entry
 entry_of lanes cap history caller ask = record {
-    caller = caller;
-    key = ask.key;
-    asked = ask.asked;
-    at = moment_of lanes history ask.key ask.asked;
-    adds = ask.adds;
-    answer = reply_of lanes cap history ask;
-  }
+  caller = caller;
+  key = ask.key;
+  asked = ask.asked;
+  at = moment_of lanes history ask.key ask.asked;
+  adds = ask.adds;
+  answer = reply_of lanes cap history ask;
+}
 
 -- the entry's moment and answer are those that the rule gives after the entries before it
 pub record Follows (lanes cap : ℕ) (before : List Entry) (entry : Entry) : Type 0 where

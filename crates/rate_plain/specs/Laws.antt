@@ -1,7 +1,7 @@
 -- What holds of the window rule and of every legal history.
-use Rattle.std.specs.Prelude.{◌≡◌, ℕ, ◌<◌, ◌≤◌, ◌^◌, ◌≢◌, List, [], ◌∷◌, ◌++◌, All, take}
+use Rattle.std.specs.Prelude.{◌≡◌, ℕ, ◌<◌, ◌≤◌, ◌^◌, ◌≢◌, ◌↔◌, true, List, [], ◌∷◌, ◌++◌, All, take}
 use Rattle.rate_plain.specs.KeyParts.{KeyParts}
-use Rattle.rate_plain.specs.Keys.{lane_of_key, key_bytes}
+use Rattle.rate_plain.specs.Keys.{same_key, lane_of_key, key_bytes}
 use Rattle.rate_plain.specs.Window.{entries_in, moment_of, reply_of, counted_of, live_count}
 use Rattle.rate_plain.specs.History.{Follows, IsLegal, AreOneLane}
 use Rattle.rate_plain.specs.declared.entry.Ask.{Ask}
@@ -18,6 +18,10 @@ pub record HasPlainIds (key : KeyParts) : Type 0 where
 -- different keys have different bytes
 abbrev pub KeysAreApart : Type 0
 KeysAreApart = (a b : KeyParts) → HasPlainIds a → HasPlainIds b → key_bytes a ≡ key_bytes b → a ≡ b
+
+-- the test on keys is true exactly of equal ones
+abbrev pub KeysAreTold : Type 0
+KeysAreTold = (a b : KeyParts) → (same_key a b ≡ true) ↔ (a ≡ b)
 
 -- a step's moment depends only on the entries of its key's lane
 abbrev pub LaneGivesMoment : Type 0

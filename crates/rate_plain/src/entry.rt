@@ -15,9 +15,7 @@ pub struct Ask {
 pub enum Answer {
     Pass,
     /// Over the limit until this moment, in milliseconds.
-    Over {
-        until: u64,
-    },
+    Over { until: u64 },
     /// The lane has no room for a further key.
     Full,
 }

@@ -89,7 +89,9 @@ fn is_alive(entry: &Entry, at: u64) -> bool
 fn has_alive(entries: &[Entry], key: &Key, at: u64) -> bool
     ensures { result ≡ has_alive key.now at entries.now }
 {
-    entries.iter().any(|entry| is_alive(entry, at) && *key == entry.key)
+    entries
+        .iter()
+        .any(|entry| is_alive(entry, at) && *key == entry.key)
 }
 
 /// How many keys of the lane are live: each is counted at the last step that makes it so.

@@ -5,6 +5,6 @@ use Rattle.rate_plain.proofs.window.live_keys.Given as goal
 -- the keys counted and those of the entries from the next one on are those of all
 abbrev pub invariant-loop-place : goal.invariant-loop-place
 invariant-loop-place l = record {
-    is_count : l.live + alive_count l.lanes l.lane l.at (drop l.place l.entries) ≡ alive_count l.lanes l.lane l.at l.entries;
-    within : l.live ≤ l.place
-  }
+  is_count : l.live + alive_count l.lanes l.lane l.at (drop l.place l.entries) ≡ alive_count l.lanes l.lane l.at l.entries;
+  within : l.live ≤ l.place;
+}
