@@ -1,13 +1,13 @@
 -- A key is live exactly if one of its steps makes it so, and a lane's live keys are those of such steps.
-use Rattle.std.proofs.Common.{inl, inr, ◌≡◌, ℕ, ◌+◌, ◌<◌, ◌≤◌, max, Bool, true, false, cond, not, ◌&&◌, ◌||◌, ◌==◌, nat_lt, List, [], ◌∷◌, length, map, filter, sum_by, Option, Some, None, is_some, refl, sym, ap, ◌∙◌, le_antisymm, zero-add, arith, lt-ltb}
+use Rattle.std.proofs.Common.{inl, inr, ◌≡◌, ℕ, ◌+◌, ◌<◌, max, Bool, true, false, cond, not, ◌&&◌, ◌||◌, ◌==◌, nat_lt, List, [], ◌∷◌, length, map, filter, sum_by, Some, None, is_some, refl, sym, ap, ◌∙◌, le_antisymm, zero-add, arith, lt-ltb}
 use Rattle.std.specs.List.{reduce, cons_option, filter_map, list_any}
-use Rattle.std.specs.Set.{is_member, unique_keys, distinct_count}
+use Rattle.std.specs.Set.{is_member, unique_keys}
 use Rattle.std.proofs.lemmas.Bool.{and_right, or_left, or_right, or_cases, and_parts, true≢false}
 use Rattle.std.proofs.lemmas.List.Sums.{sum_by-cons}
 use Rattle.std.proofs.lemmas.Map.Made.{is_member-filter, alike_from_same}
 use Rattle.rate_plain.specs.KeyParts.{KeyParts}
 use Rattle.rate_plain.specs.Keys.{same_key, lane_of_key}
-use Rattle.rate_plain.specs.Window.{end_of, entries_of, entries_in, is_counted, weight_of, counted_of, held_until, is_live, live_count}
+use Rattle.rate_plain.specs.Window.{end_of, entries_of, entries_in, is_counted, weight_of, counted_of, is_live, live_count}
 use Rattle.rate_plain.specs.Alive.{end_above, is_alive, has_alive, is_alive_in, alive_count}
 use Rattle.rate_plain.proofs.KeyLemmas.{same_key-equiv, same_key-Decides, same_lane}
 use Rattle.rate_plain.proofs.Distinct.{distinct_count-within}

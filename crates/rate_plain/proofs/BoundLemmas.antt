@@ -1,11 +1,9 @@
 -- On a legal history no key counts more than its threshold, and no lane has more live keys than it has room for.
-use Rattle.std.proofs.Common.{◌≡◌, ◌≢◌, ◌⊎◌, map, ℕ, suc, ◌+◌, ◌<◌, ◌≤◌, max, Bool, true, false, cond, not, ◌&&◌, ◌||◌, ◌==◌, nat_lt, nat_le, List, [], ◌∷◌, ◌++◌, filter, sum_by, Option, Some, None, is_some, refl, sym, ap, ◌∙◌, subst, arith, inl, inr, ltb-true, lt-ltb, leb-false, eqb-true}
-use Rattle.std.specs.List.{list_any}
+use Rattle.std.proofs.Common.{◌≡◌, ◌⊎◌, map, ℕ, suc, ◌+◌, ◌<◌, ◌≤◌, max, Bool, true, false, cond, not, ◌&&◌, ◌||◌, ◌==◌, nat_lt, nat_le, List, [], ◌∷◌, ◌++◌, filter, sum_by, Option, Some, None, is_some, refl, sym, ap, ◌∙◌, subst, arith, inl, inr, ltb-true, lt-ltb, leb-false, eqb-true}
 use Rattle.std.specs.Set.{is_member}
 use Rattle.std.proofs.lemmas.Bool.{true≢false, and_parts, and_from, or_left, or_right, or_cases, or_parts, eq-eqb, eqb-false}
 use Rattle.std.proofs.lemmas.List.Sums.{sum_by-cons}
 use Rattle.std.proofs.lemmas.List.Folds.{list_any-append}
-use Rattle.std.proofs.lemmas.Map.Steps.{list_any_congr}
 use Rattle.rate_plain.specs.KeyParts.{KeyParts}
 use Rattle.rate_plain.specs.Keys.{same_key, lane_of_key}
 use Rattle.rate_plain.specs.Window.{is_pass, entries_of, entries_in, latest_of, moment_of, is_counted, weight_of, counted_of, held_until, is_live, live_count, is_shut_out, held_or}

@@ -1,5 +1,5 @@
 -- The test on keys says whether they are equal.
-use Rattle.std.proofs.Common.{◌≡◌, ℕ, Bool, true, false, ◌&&◌, ◌==◌, List, bytes_eq, Decides, refl, sym, ap, subst, eqb-true, eq-eqb}
+use Rattle.std.proofs.Common.{◌≡◌, ℕ, true, List, bytes_eq, Decides, refl, ap, subst, eqb-true, eq-eqb}
 use Rattle.std.specs.Cmp.{IsEquivalence, decided}
 use Rattle.std.proofs.lemmas.Bool.{and_parts, and_from}
 use Rattle.std.proofs.lemmas.Slice.Eq.{bytes_eq-Decides}

@@ -1,7 +1,7 @@
 -- A legal history, from its first step on.
-use Rattle.std.proofs.Common.{◌≡◌, ◌⊎◌, ℕ, zero, suc, ◌+◌, ◌<◌, ◌≤◌, List, [], ◌∷◌, ◌++◌, length, get_or, take, ⊎_elim, inl, inr, refl, sym, ap, ◌∙◌, subst, subst₂, arith, add-one}
+use Rattle.std.proofs.Common.{◌≡◌, ◌⊎◌, ℕ, zero, suc, ◌<◌, ◌≤◌, List, [], ◌∷◌, ◌++◌, length, get_or, take, inl, inr, sym, ap, ◌∙◌, subst, subst₂, arith, add-one}
 use Rattle.std.proofs.lemmas.Bool.{cases_lt}
-use Rattle.std.proofs.lemmas.List.{take_more, take_all, take-take, take-append-le, take_at, get_or_append_left, get_or_push, get_or-take, length-take-le, length_push, length-take}
+use Rattle.std.proofs.lemmas.List.{take_more, take_all, take-take, take-append-le, take_at, get_or_append_left, get_or_push, get_or-take, length_push, length-take}
 use Rattle.rate_plain.specs.History.{Follows, IsLegal}
 use Rattle.rate_plain.specs.declared.entry.Entry.{Entry}
 

@@ -1,7 +1,6 @@
 -- Which keys are the same, the bytes of a key, and its lane.
 use Rattle.std.specs.Prelude.{ℕ, ◌%◌, Bool, ◌&&◌, ◌==◌, List, [], ◌∷◌, ◌++◌, bytes_eq}
 use Rattle.std.specs.Int.{to_be_bytes}
-use Rattle.edge_base.specs.declared.rule_name.RuleName.{RuleName}
 use Rattle.rate_plain.specs.KeyParts.{KeyParts}
 use Rattle.rate_plain.specs.Hash.{fnv1a64_of}
 use Rattle.std.specs.Int.{w64}

@@ -1,6 +1,6 @@
 -- The window rule: which steps of a key still count, which mitigation still runs, and what the next step is told.
 -- All of it is said of the whole list of the steps so far.
-use Rattle.std.specs.Prelude.{ℕ, ◌+◌, max, Bool, true, false, cond, not, ◌&&◌, ◌||◌, ◌==◌, nat_lt, nat_le, List, [], ◌∷◌, map, filter, filter_map, sum_by, fold, Option, Some, None, is_some}
+use Rattle.std.specs.Prelude.{ℕ, ◌+◌, max, Bool, true, false, cond, not, ◌&&◌, ◌||◌, ◌==◌, nat_lt, nat_le, List, map, filter, filter_map, sum_by, fold, Option, Some, None, is_some}
 use Rattle.std.specs.List.{reduce}
 use Rattle.std.specs.Set.{distinct_count}
 use Rattle.rate_plain.specs.KeyParts.{KeyParts}

@@ -1,4 +1,4 @@
-use Rattle.std.proofs.Common.{◌≡◌, [], ◌∷◌, ◌++◌, ap, ◌∙◌, sym, arith}
+use Rattle.std.proofs.Common.{◌≡◌, [], ◌∷◌, ◌++◌, ap, ◌∙◌, arith}
 use Rattle.rate_plain.specs.History.{entry_of}
 use Rattle.rate_plain.specs.Plain.{entry_after}
 use Rattle.rate_plain.proofs.plain.PlainCounterTally.step.Goals as goal
