@@ -1,0 +1,9 @@
+pub mod HashLemmas
+pub mod KeyLemmas
+pub mod Distinct
+pub mod WindowLemmas
+pub mod AliveLemmas
+pub mod LaneLemmas
+pub mod BytesLemmas
+pub mod LegalLemmas
+pub mod BoundLemmas

@@ -1,0 +1,70 @@
+-- What holds of the window rule and of every legal history.
+use Rattle.std.specs.Prelude.{◌≡◌, ℕ, ◌<◌, ◌≤◌, ◌^◌, ◌≢◌, ◌↔◌, true, List, [], ◌∷◌, ◌++◌, All, take}
+use Rattle.rate_plain.specs.KeyParts.{KeyParts}
+use Rattle.rate_plain.specs.Keys.{same_key, lane_of_key, key_bytes}
+use Rattle.rate_plain.specs.Window.{entries_in, moment_of, reply_of, counted_of, live_count}
+use Rattle.rate_plain.specs.History.{Follows, IsLegal, AreOneLane}
+use Rattle.rate_plain.specs.declared.entry.Ask.{Ask}
+use Rattle.rate_plain.specs.declared.entry.Entry.{Entry}
+
+-- the ids hold no byte 0, as no id of letters, digits, `_` and `-` does, and each number has eight bytes
+pub record HasPlainIds (key : KeyParts) : Type 0 where
+  pub set_id : All (λ byte. byte ≢ 0) key.rule.set_id
+  pub rule : All (λ byte. byte ≢ 0) key.rule.rule
+  pub period : key.period < 2 ^ 64
+  pub threshold : key.threshold < 2 ^ 64
+  pub timeout : key.timeout < 2 ^ 64
+
+-- different keys have different bytes
+abbrev pub KeysAreApart : Type 0
+KeysAreApart = (a b : KeyParts) → HasPlainIds a → HasPlainIds b → key_bytes a ≡ key_bytes b → a ≡ b
+
+-- the test on keys is true exactly of equal ones
+abbrev pub KeysAreTold : Type 0
+KeysAreTold = (a b : KeyParts) → (same_key a b ≡ true) ↔ (a ≡ b)
+
+-- a step's moment depends only on the entries of its key's lane
+abbrev pub LaneGivesMoment : Type 0
+LaneGivesMoment = (lanes : ℕ) (history : List Entry) (key : KeyParts) (asked : ℕ) →
+    moment_of lanes (entries_in lanes (lane_of_key lanes key) history) key asked ≡ moment_of lanes history key asked
+
+-- and so does its answer
+abbrev pub LaneGivesReply : Type 0
+LaneGivesReply = (lanes cap : ℕ) (history : List Entry) (ask : Ask) →
+    reply_of lanes cap (entries_in lanes (lane_of_key lanes ask.key) history) ask ≡ reply_of lanes cap history ask
+
+-- where all entries are of the key's lane, its moment is the same at any number of lanes
+abbrev pub OneLaneGivesMoment : Type 0
+OneLaneGivesMoment = (lanes other : ℕ) (history : List Entry) (key : KeyParts) (asked : ℕ) →
+    AreOneLane lanes key history → AreOneLane other key history → moment_of lanes history key asked ≡ moment_of other history key asked
+
+-- and so is the answer
+abbrev pub OneLaneGivesReply : Type 0
+OneLaneGivesReply = (lanes other cap : ℕ) (history : List Entry) (ask : Ask) →
+    AreOneLane lanes ask.key history → AreOneLane other ask.key history → reply_of lanes cap history ask ≡ reply_of other cap history ask
+
+-- a lane taken by itself, as the only one, gives the moment of the whole
+abbrev pub LaneStandsAloneInMoment : Type 0
+LaneStandsAloneInMoment = (lanes : ℕ) (history : List Entry) (key : KeyParts) (asked : ℕ) →
+    moment_of 1 (entries_in lanes (lane_of_key lanes key) history) key asked ≡ moment_of lanes history key asked
+
+-- and the answer of the whole
+abbrev pub LaneStandsAlone : Type 0
+LaneStandsAlone = (lanes cap : ℕ) (history : List Entry) (ask : Ask) →
+    reply_of 1 cap (entries_in lanes (lane_of_key lanes ask.key) history) ask ≡ reply_of lanes cap history ask
+
+-- no step is legal, one more that follows keeps a history legal, and so does leaving off its end
+pub record LegalStepByStep : Type 0 where
+  pub none : (lanes cap : ℕ) → IsLegal lanes cap []
+  pub more : (lanes cap : ℕ) (history : List Entry) (entry : Entry) → IsLegal lanes cap history → Follows lanes cap history entry → IsLegal lanes cap (history ++ entry ∷ [])
+  pub front : (lanes cap : ℕ) (history : List Entry) (n : ℕ) → IsLegal lanes cap history → IsLegal lanes cap (take n history)
+
+-- on a legal history no more of a key counts at a further step's moment than its threshold
+abbrev pub CountedStaysWithin : Type 0
+CountedStaysWithin = (lanes cap : ℕ) (history : List Entry) → IsLegal lanes cap history → (key : KeyParts) (asked : ℕ) →
+    counted_of key (moment_of lanes history key asked) history ≤ key.threshold
+
+-- and no more keys of a lane are live than it has room for
+abbrev pub LiveStaysWithin : Type 0
+LiveStaysWithin = (lanes cap : ℕ) (history : List Entry) → IsLegal lanes cap history → (key : KeyParts) (asked : ℕ) →
+    live_count lanes (lane_of_key lanes key) (moment_of lanes history key asked) history ≤ cap
