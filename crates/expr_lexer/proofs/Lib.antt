@@ -1,2 +1,3 @@
+pub mod AddressLemmas
 pub mod KindLemmas
 pub mod StateLemmas
