@@ -1,3 +1,4 @@
 pub mod AddressLemmas
+pub mod FrontLemmas
 pub mod KindLemmas
 pub mod StateLemmas

@@ -14,9 +14,9 @@ better (Some token_kind) size best = Some (record { size = size; kind = token_ki
 
 -- the longest token that is read from a state on
 abbrev pub best_from : State → List ℕ → ℕ → Option Front → Option Front
-best_from start [] at best = best
-best_from start (byte ∷ text) at best =
-    with_next (next_of start byte) best (λ next. best_from next text (at + 1) (better (kind_in next) (at + 1) best))
+best_from from [] at best = best
+best_from from (byte ∷ text) at best =
+    with_next (next_of from byte) best (λ next. best_from next text (at + 1) (better (kind_in next) (at + 1) best))
 
 abbrev pub is_address : TokenKind → Bool
 is_address kind.Address = true

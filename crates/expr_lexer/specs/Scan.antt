@@ -1,5 +1,6 @@
 -- The longest token other than an address or a block, read byte by byte.
 use Rattle.std.specs.Prelude.{◌≡◌, ℕ, ◌+◌, ◌-◌, ◌*◌, ◌^◌, ◌≤◌, Bool, true, false, cond, not, ◌&&◌, ◌||◌, nat_lt, nat_le, ◌==◌, List, [], ◌∷◌, length, take, Option, Some, None, IsTrue}
+use Rattle.std.specs.List.{position_or_len}
 use Rattle.edge_base.specs.declared.token.TokenKind.{TokenKind}
 use Rattle.edge_base.specs.declared.token.TokenKind.TheVariants as kind
 use Rattle.edge_base.specs.Token.{is_digit, is_name_start, is_name_byte}
@@ -9,6 +10,13 @@ use Rattle.expr_lexer.specs.declared.scanner.State.TheVariants as state
 -- a byte that an address can hold
 abbrev pub is_address_byte : ℕ → Bool
 is_address_byte byte = is_digit byte || nat_le 97 byte && nat_le byte 102 || nat_le 65 byte && nat_le byte 70 || byte == 58 || byte == 46
+
+abbrev pub is_other_byte : ℕ → Bool
+is_other_byte byte = not (is_address_byte byte)
+
+-- how many bytes at the front an address can hold, as far as one reaches
+abbrev pub stretch_of : List ℕ → ℕ
+stretch_of text = position_or_len is_other_byte (take 45 text)
 
 abbrev pub digit_of : ℕ → ℕ → ℕ → Option State
 digit_of most size byte =
@@ -112,5 +120,5 @@ with_next (Some next) stop go = go next
 
 -- the kind of the token that a whole text is, read from a state on
 abbrev pub kind_from : State → List ℕ → Option TokenKind
-kind_from start [] = kind_in start
-kind_from start (byte ∷ text) = with_next (next_of start byte) None (λ next. kind_from next text)
+kind_from from [] = kind_in from
+kind_from from (byte ∷ text) = with_next (next_of from byte) None (λ next. kind_from next text)

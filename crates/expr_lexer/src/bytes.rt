@@ -1,4 +1,4 @@
-ghost use Rattle.std.specs.Prelude.{◌≡◌};
+ghost use Rattle.std.specs.Prelude.{◌≡◌, bytes_eq};
 ghost use Rattle.edge_base.specs.Token.{is_blank, is_digit, is_name_start, is_name_byte, is_word_byte, is_reserved};
 ghost use Rattle.expr_lexer.specs.Scan.{is_address_byte};
 
@@ -46,13 +46,30 @@ pub fn is_address_byte(byte: u8) -> bool
         || byte == b'.'
 }
 
-const RESERVED: [&[u8]; 17] = [
-    b"not", b"and", b"xor", b"or", b"eq", b"ne", b"lt", b"le", b"gt", b"ge", b"contains", b"matches",
-    b"in", b"wildcard", b"strict", b"true", b"false",
-];
-
 pub fn is_reserved(text: &[u8]) -> bool
     ensures { result ≡ is_reserved text.now }
 {
-    RESERVED.iter().any(|word| text == *word)
+    is_word(text, "not")
+        || is_word(text, "and")
+        || is_word(text, "xor")
+        || is_word(text, "or")
+        || is_word(text, "eq")
+        || is_word(text, "ne")
+        || is_word(text, "lt")
+        || is_word(text, "le")
+        || is_word(text, "gt")
+        || is_word(text, "ge")
+        || is_word(text, "contains")
+        || is_word(text, "matches")
+        || is_word(text, "in")
+        || is_word(text, "wildcard")
+        || is_word(text, "strict")
+        || is_word(text, "true")
+        || is_word(text, "false")
+}
+
+fn is_word(text: &[u8], word: &str) -> bool
+    ensures { result ≡ bytes_eq text.now word.now }
+{
+    text == word.as_bytes()
 }

@@ -1,7 +1,7 @@
-ghost use Rattle.std.specs.Prelude.{◌≡◌, take, MatchOption};
-ghost use Rattle.std.specs.List.{prefix_len};
+ghost use Rattle.std.specs.Prelude.{◌≡◌, MatchOption};
+ghost use Rattle.std.specs.List.{position};
 ghost use Rattle.edge_base.specs.Cut.{IsLongest, may_stand_before, stands_apart};
-ghost use Rattle.expr_lexer.specs.Scan.{is_address_byte};
+ghost use Rattle.expr_lexer.specs.Scan.{is_other_byte, stretch_of};
 ghost use Rattle.expr_lexer.specs.Fronts.{best_from, longer_of, IsLongestAmong, is_scanned, is_block, is_address, HasNoToken, kind_of_name};
 
 use crate::bytes::{is_address_byte, is_reserved, is_word_byte};
@@ -39,8 +39,11 @@ fn longer(one: Option<Front>, other: Option<Front>) -> Option<Front>
 fn longest_scanned(text: &[u8]) -> Option<Front>
     ensures { IsLongestAmong is_scanned text.now result }
 {
-    let front = longest_from(State::Start, text)?;
-    Some(Front { kind: kind_of_name(front.kind, &text[..front.size]), ..front })
+    let Some(front) = longest_from(State::Start, text) else {
+        return None;
+    };
+    let kind = kind_of_name(front.kind, &text[..front.size]);
+    Some(Front { size: front.size, kind })
 }
 
 /// The kind of a token that was read, which may be a reserved word.
@@ -73,10 +76,17 @@ fn longest_from(start: State, text: &[u8]) -> Option<Front>
 
 /// How many bytes at the front an address can hold, as far as one reaches.
 fn address_stretch(text: &[u8]) -> usize
-    ensures { result ≡ prefix_len is_address_byte (take 45 text.now) }
+    ensures { result ≡ stretch_of text.now }
 {
     let near = &text[..text.len().min(MOST_ADDRESS)];
-    near.iter().position(|&byte| !is_address_byte(byte)).unwrap_or(near.len())
+    first_other_byte(near).unwrap_or(near.len())
+}
+
+/// The place of the first byte that no address holds.
+fn first_other_byte(text: &[u8]) -> Option<usize>
+    ensures { result ≡ position is_other_byte text.now }
+{
+    text.iter().position(|&byte| !is_address_byte(byte))
 }
 
 fn longest_address(text: &[u8]) -> Option<Front>
@@ -99,7 +109,9 @@ fn longest_block(text: &[u8]) -> Option<Front>
     if size == text.len() || text[size] != b'/' || parse_addr(&text[..size]).is_none() {
         return None;
     }
-    let bits = longest_from(State::Bits, &text[size + 1..])?;
+    let Some(bits) = longest_from(State::Bits, &text[size + 1..]) else {
+        return None;
+    };
     Some(Front { size: size + 1 + bits.size, kind: TokenKind::Block })
 }
 

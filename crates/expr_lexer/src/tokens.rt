@@ -58,7 +58,9 @@ fn token_at(text: &[u8], at: usize) -> Option<Token>
     ensures { MatchOption result ((token : Token) → token.start ≡ at → ¬ (IsTokenAt text.now token)) (λ token. (token.start ≡ at) × (at < token.end) × (token.end ≤ length text.now) × IsTokenAt text.now token) }
 {
     let rest = &text[at..];
-    let front = longest_token(rest)?;
+    let Some(front) = longest_token(rest) else {
+        return None;
+    };
     if may_stand_before(front.kind, &rest[front.size..]) {
         Some(Token { kind: front.kind, start: at as u32, end: (at + front.size) as u32 })
     } else {

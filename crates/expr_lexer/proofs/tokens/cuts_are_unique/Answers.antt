@@ -1,0 +1,6 @@
+use Rattle.expr_lexer.proofs.FrontLemmas.{read_longest}
+use Rattle.expr_lexer.proofs.AddressLemmas.{address_face}
+use Rattle.expr_lexer.proofs.tokens.cuts_are_unique.Goals as goal
+
+pub returns : goal.returns
+returns c = ?
