@@ -1,4 +1,6 @@
 pub mod AddressLemmas
+pub mod ApartLemmas
+pub mod BlockLemmas
 pub mod FrontLemmas
 pub mod KindLemmas
 pub mod LongestLemmas
