@@ -109,3 +109,178 @@ number_byte_is_no_sign byte h = grind (arith, nat_tests)
 
 number_byte_is_no_dot : (byte : ℕ) → is_number_byte byte ≡ true → is_dot byte ≡ false
 number_byte_is_no_dot byte h = grind (arith, nat_tests)
+
+-- ---- the other kinds, by their first byte
+
+text_begins : (text : List ℕ) → IsSome (text_of text) → BeginsWithAddressByte text → ⊥
+text_begins [] h first = first
+text_begins (byte ∷ text) h first = elim (cases_Bool (byte == 34)) [
+    inl quote ↦ let bad : false ≡ true = rw (eqb-true byte 34 quote) at first in absurd (cc)
+    | inr other ↦ let bad : false ≡ true = rw other at h in absurd (cc) ]
+
+raw_begins : (text : List ℕ) → IsSome (raw_text_of text) → BeginsWithAddressByte text → ⊥
+raw_begins [] h first = first
+raw_begins (byte ∷ text) h first = elim (cases_Bool (byte == 114)) [
+    inl letter ↦ let bad : false ≡ true = rw (eqb-true byte 114 letter) at first in absurd (cc)
+    | inr other ↦ let bad : false ≡ true = rw other at h in absurd (cc) ]
+
+list_name_begins : (text : List ℕ) → IsSome (list_name_of text) → BeginsWithAddressByte text → ⊥
+list_name_begins [] h first = first
+list_name_begins (byte ∷ text) h first = elim (cases_Bool (byte == 36)) [
+    inl dollar ↦ let bad : false ≡ true = rw (eqb-true byte 36 dollar) at first in absurd (cc)
+    | inr other ↦ let bad : false ≡ true = rw other at h in absurd (cc) ]
+
+record SymbolBytes (text : List ℕ) : Type 0 where
+  no_sign : list_any is_sign text ≡ false
+  no_digit : BeginsWithDigit text → ⊥
+
+symbol_bytes : (text : List ℕ) → is_symbol text ≡ true → SymbolBytes text
+symbol_bytes text h = one_of SymbolBytes text symbols h
+    (record { no_sign = refl; no_digit = λ digit. cc }, (record { no_sign = refl; no_digit = λ digit. cc }, (record { no_sign = refl; no_digit = λ digit. cc }, (record { no_sign = refl; no_digit = λ digit. cc }, (record { no_sign = refl; no_digit = λ digit. cc }, (record { no_sign = refl; no_digit = λ digit. cc }, (record { no_sign = refl; no_digit = λ digit. cc }, (record { no_sign = refl; no_digit = λ digit. cc }, (record { no_sign = refl; no_digit = λ digit. cc }, (record { no_sign = refl; no_digit = λ digit. cc }, (record { no_sign = refl; no_digit = λ digit. cc }, (record { no_sign = refl; no_digit = λ digit. cc }, (record { no_sign = refl; no_digit = λ digit. cc }, (record { no_sign = refl; no_digit = λ digit. cc }, (record { no_sign = refl; no_digit = λ digit. cc }, (record { no_sign = refl; no_digit = λ digit. cc }, (record { no_sign = refl; no_digit = λ digit. cc }, (record { no_sign = refl; no_digit = λ digit. cc }, (record { no_sign = refl; no_digit = λ digit. cc }, (record { no_sign = refl; no_digit = λ digit. cc }, tt))))))))))))))))))))
+
+unscanned_is_unread : (token_kind : TokenKind) (text : List ℕ) → IsUnscanned text → Shape token_kind text → ⊥
+unscanned_is_unread kind.Name text h shape = elim h.sign [
+    inl sign ↦ clash _ is_sign name_byte_is_no_sign text ((name_bytes text).name shape) sign
+    | inr dotted ↦ name_begins_no_digit text shape dotted.0 ]
+unscanned_is_unread kind.Reserved text h shape = shape
+unscanned_is_unread kind.Number text h shape = elim h.sign [
+    inl sign ↦ clash _ is_sign number_byte_is_no_sign text (number_bytes text shape) sign
+    | inr dotted ↦ clash _ is_dot number_byte_is_no_dot text (number_bytes text shape) dotted.1 ]
+unscanned_is_unread kind.Address text h shape = shape
+unscanned_is_unread kind.Block text h shape = shape
+unscanned_is_unread kind.Text text h shape = text_begins text shape h.first
+unscanned_is_unread kind.RawText text h shape = raw_begins text shape h.first
+unscanned_is_unread kind.ListName text h shape = list_name_begins text shape h.first
+unscanned_is_unread kind.Symbol text h shape = elim h.sign [
+    inl sign ↦ both_ways _ (symbol_bytes text shape).no_sign sign
+    | inr dotted ↦ (symbol_bytes text shape).no_digit dotted.0 ]
+
+-- ---- addresses and blocks
+
+colon_is_sign : (text : List ℕ) → list_any is_colon text ≡ true → list_any is_sign text ≡ true
+colon_is_sign [] h = h
+colon_is_sign (byte ∷ text) h = elim (or_cases (is_colon byte) (list_any is_colon text) h) [
+    inl here ↦ or_left (is_sign byte) (list_any is_sign text) (or_left (is_colon byte) (is_slash byte) here)
+    | inr later ↦ or_right (is_sign byte) (list_any is_sign text) (colon_is_sign text later) ]
+
+address_begins : (text : List ℕ) → list_all is_address_byte text ≡ true → (list_any is_colon text ≡ true) ⊎ (BeginsWithDigit text × (list_any is_dot text ≡ true)) → BeginsWithAddressByte text
+address_begins [] bytes sign = elim sign [ inl colon ↦ absurd (cc) | inr dotted ↦ dotted.0 ]
+address_begins (byte ∷ text) bytes sign = (and_parts _ _ bytes).0
+
+address_is_unscanned : (text : List ℕ) (a : Addr) → IsAddrText text a → IsUnscanned text
+address_is_unscanned text a h = let face : IsAddressFace text = address_face text a h in record {
+    first = address_begins text face.bytes face.sign;
+    sign = elim face.sign [ inl colon ↦ inl (colon_is_sign text colon) | inr dotted ↦ inr dotted ] }
+
+begins-append : (text more : List ℕ) → BeginsWithAddressByte text → BeginsWithAddressByte (text ++ more)
+begins-append [] more h = absurd h
+begins-append (byte ∷ text) more h = h
+
+block_is_unscanned : (text : List ℕ) (a : Addr) (bits : ℕ) → IsBlockText text a bits → IsUnscanned text
+block_is_unscanned text a bits h = subst IsUnscanned (sym (block_splits text bits h.1)) record {
+    first = begins-append (before_first is_slash text) (47 ∷ after_first is_slash text) (address_is_unscanned (before_first is_slash text) a h.0).first;
+    sign = inl (list_any-append is_sign (before_first is_slash text) (47 ∷ after_first is_slash text) ∙ or_right _ _ refl) }
+
+block_is_no_address : (text : List ℕ) (a b : Addr) (bits : ℕ) → IsBlockText text a bits → IsAddrText text b → ⊥
+block_is_no_address text a b bits h k =
+    let bytes : list_all is_address_byte (before_first is_slash text ++ 47 ∷ after_first is_slash text) ≡ true
+        = ap (list_all is_address_byte) (sym (block_splits text bits h.1)) ∙ (address_face text b k).bytes in
+    let parts = and_parts _ _ (sym (list_all-append is_address_byte (before_first is_slash text) (47 ∷ after_first is_slash text)) ∙ bytes) in
+    let bad : false ≡ true = parts.1 in cc
+
+token_is_unscanned : (token_kind : TokenKind) (text : List ℕ) → is_scanned token_kind ≡ false → IsTokenOf token_kind text → IsUnscanned text
+token_is_unscanned kind.Name text among h = absurd (cc)
+token_is_unscanned kind.Reserved text among h = absurd (cc)
+token_is_unscanned kind.Number text among h = absurd (cc)
+token_is_unscanned kind.Address text among h = address_is_unscanned text h.0 h.1
+token_is_unscanned kind.Block text among h = block_is_unscanned text h.0 h.1 h.2
+token_is_unscanned kind.Text text among h = absurd (cc)
+token_is_unscanned kind.RawText text among h = absurd (cc)
+token_is_unscanned kind.ListName text among h = absurd (cc)
+token_is_unscanned kind.Symbol text among h = absurd (cc)
+
+unscanned_kind : (token_kind : TokenKind) → is_scanned token_kind ≡ false → (token_kind ≡ kind.Address) ⊎ (token_kind ≡ kind.Block)
+unscanned_kind kind.Name h = absurd (cc)
+unscanned_kind kind.Reserved h = absurd (cc)
+unscanned_kind kind.Number h = absurd (cc)
+unscanned_kind kind.Address h = inl refl
+unscanned_kind kind.Block h = inr refl
+unscanned_kind kind.Text h = absurd (cc)
+unscanned_kind kind.RawText h = absurd (cc)
+unscanned_kind kind.ListName h = absurd (cc)
+unscanned_kind kind.Symbol h = absurd (cc)
+
+-- ---- one kind at most
+
+-- the kind is what the scanner's kind and the reserved words give
+kind_is : (token_kind : TokenKind) (text : List ℕ) → IsTokenOf token_kind text → token_kind ≡ kind_of_name (shape_of token_kind) text
+kind_is kind.Name text h = rw (not-true _ h.1) refl
+kind_is kind.Reserved text h = rw h refl
+kind_is kind.Number text h = refl
+kind_is kind.Address text h = refl
+kind_is kind.Block text h = refl
+kind_is kind.Text text h = refl
+kind_is kind.RawText text h = refl
+kind_is kind.ListName text h = refl
+kind_is kind.Symbol text h = refl
+
+same_kind_of : (a b : TokenKind) → ◌≡◌ {A = Option TokenKind} (Some a) (Some b) → a ≡ b
+same_kind_of a b h = cc
+
+both_scanned : (text : List ℕ) (one other : TokenKind) → is_scanned one ≡ true → is_scanned other ≡ true → IsTokenOf one text → IsTokenOf other text → one ≡ other
+both_scanned text one other here there h k =
+    kind_is one text h ∙ ap (λ (shape : TokenKind). kind_of_name shape text) (same_kind_of _ _ (sym (token_is_read one text here h) ∙ token_is_read other text there k))
+    ∙ sym (kind_is other text k)
+
+one_scanned : (text : List ℕ) (one other : TokenKind) → is_scanned one ≡ true → is_scanned other ≡ false → IsTokenOf one text → IsTokenOf other text → ⊥
+one_scanned text one other here there h k =
+    unscanned_is_unread (shape_of one) text (token_is_unscanned other text there k) (scan_gives text (shape_of one) (token_is_read one text here h))
+
+two_kinds : (text : List ℕ) → IsTokenOf kind.Block text → IsTokenOf kind.Address text → ⊥
+two_kinds text h k = block_is_no_address text h.0 k.0 h.1 h.2 k.1
+
+none_scanned : (text : List ℕ) (one other : TokenKind) → is_scanned one ≡ false → is_scanned other ≡ false → IsTokenOf one text → IsTokenOf other text → one ≡ other
+none_scanned text one other here there h k = elim (unscanned_kind one here) [
+    inl a ↦ elim (unscanned_kind other there) [
+        inl b ↦ a ∙ sym b
+        | inr b ↦ absurd (two_kinds text (let t : IsTokenOf kind.Block text = subst (λ (j : TokenKind). IsTokenOf j text) b k in t) (let t : IsTokenOf kind.Address text = subst (λ (j : TokenKind). IsTokenOf j text) a h in t)) ]
+    | inr a ↦ elim (unscanned_kind other there) [
+        inl b ↦ absurd (two_kinds text (let t : IsTokenOf kind.Block text = subst (λ (j : TokenKind). IsTokenOf j text) a h in t) (let t : IsTokenOf kind.Address text = subst (λ (j : TokenKind). IsTokenOf j text) b k in t))
+        | inr b ↦ a ∙ sym b ] ]
+
+pub kinds_apart : (text : List ℕ) (one other : TokenKind) → IsTokenOf one text → IsTokenOf other text → one ≡ other
+kinds_apart text one other h k = elim (cases_Bool (is_scanned one)) [
+    inl here ↦ elim (cases_Bool (is_scanned other)) [
+        inl there ↦ both_scanned text one other here there h k
+        | inr there ↦ absurd (one_scanned text one other here there h k) ]
+    | inr here ↦ elim (cases_Bool (is_scanned other)) [
+        inl there ↦ absurd (one_scanned text other one there here k h)
+        | inr there ↦ none_scanned text one other here there h k ] ]
+
+-- ---- no token is empty, and none begins with a blank
+
+unscanned_not_empty : IsUnscanned [] → ⊥
+unscanned_not_empty h = h.first
+
+pub empty_is_no_token : (token_kind : TokenKind) → ¬ (IsTokenOf token_kind [])
+empty_is_no_token token_kind h = elim (cases_Bool (is_scanned token_kind)) [
+    inl here ↦ let bad : None ≡ Some (shape_of token_kind) = token_is_read token_kind [] here h in absurd (cc)
+    | inr there ↦ unscanned_not_empty (token_is_unscanned token_kind [] there h) ]
+
+blank_begins_nothing : (byte : ℕ) → is_blank byte ≡ true → first_of byte ≡ None
+blank_begins_nothing byte h = let P : ℕ → Type 0 = λ b. first_of b ≡ None in elim (or_cases _ (byte == 10) h) [
+    inl more ↦ elim (or_cases _ (byte == 13) more) [
+        inl less ↦ elim (or_cases _ (byte == 9) less) [
+            inl space ↦ subst P (sym (eqb-true byte 32 space)) refl
+            | inr tab ↦ subst P (sym (eqb-true byte 9 tab)) refl ]
+        | inr cr ↦ subst P (sym (eqb-true byte 13 cr)) refl ]
+    | inr lf ↦ subst P (sym (eqb-true byte 10 lf)) refl ]
+
+address_byte_is_no_blank : (byte : ℕ) → is_address_byte byte ≡ true → is_blank byte ≡ true → ⊥
+address_byte_is_no_blank byte h blank = grind (arith, nat_tests)
+
+pub token_begins_with_no_blank : (token_kind : TokenKind) (byte : ℕ) (text : List ℕ) → IsTokenOf token_kind (byte ∷ text) → is_blank byte ≡ true → ⊥
+token_begins_with_no_blank token_kind byte text h blank = elim (cases_Bool (is_scanned token_kind)) [
+    inl here ↦ let bad : None ≡ Some (shape_of token_kind)
+            = ap (λ (read : Option State). with_next read None (λ next. kind_from next text)) (sym (blank_begins_nothing byte blank)) ∙ token_is_read token_kind (byte ∷ text) here h in absurd (cc)
+    | inr there ↦ address_byte_is_no_blank byte (token_is_unscanned token_kind (byte ∷ text) there h).first blank ]

@@ -1,9 +1,5 @@
-use Rattle.expr_lexer.proofs.ApartLemmas.{IsUnscanned}
-use Rattle.expr_lexer.proofs.BlockLemmas.{stretch_within}
-use Rattle.expr_lexer.proofs.LongestLemmas.{longer_is, longest_of_all}
-use Rattle.expr_lexer.proofs.FrontLemmas.{read_longest}
-use Rattle.expr_lexer.proofs.AddressLemmas.{address_face}
+use Rattle.expr_lexer.proofs.CutLemmas.{cut_is_one}
 use Rattle.expr_lexer.proofs.tokens.cuts_are_unique.Goals as goal
 
 pub returns : goal.returns
-returns c = ?
+returns c = λ text tokens others h k. cut_is_one text 0 tokens others h k
