@@ -1,5 +1,5 @@
 -- The longest address and the longest block, by the stretch of bytes that an address can hold.
-use Rattle.std.proofs.Common.{◌≡◌, ◌≢◌, ℕ, suc, zero, ◌+◌, ◌-◌, ◌<◌, ◌≤◌, ◌⊎◌, Bool, true, false, cond, not, ◌&&◌, ◌||◌, ◌==◌, List, [], ◌∷◌, ◌++◌, length, take, drop, get_or, Option, Some, None, is_some, IsSome, codes, bytes_eq, inl, inr, refl, sym, ◌∙◌, ap, subst, arith, eqb-true, zero-add, one-add, add-one, length-append, length-drop, take-append-drop, append_assoc, suc-add}
+use Rattle.std.proofs.Common.{◌≡◌, ◌≢◌, ℕ, suc, zero, ◌+◌, ◌-◌, ◌<◌, ◌≤◌, ◌⊎◌, Bool, true, false, cond, not, ◌&&◌, ◌||◌, ◌==◌, nat_lt, unwrap_or, position, MatchOption, ltb-false, List, [], ◌∷◌, ◌++◌, length, take, drop, get_or, Option, Some, None, is_some, IsSome, codes, bytes_eq, inl, inr, refl, sym, ◌∙◌, ap, subst, arith, eqb-true, zero-add, one-add, add-one, length-append, length-drop, take-append-drop, append_assoc, suc-add}
 use Rattle.std.proofs.lemmas.Bool.{cases_Bool, and_parts, both_ways}
 use Rattle.std.proofs.lemmas.Bool.Decides.{nat_tests}
 use Rattle.std.proofs.lemmas.List.{take_at, drop_at, length-take-le, take-append-le, get_or_at, drop_more, take-take, drop-drop}
@@ -223,3 +223,41 @@ block_is_longest text a bits within slash is_addr h =
       is_token = rw (around_slash text (stretch_of text) bits.size within slash)
           (a, value, block_text (take (stretch_of text) text) rest a value is_addr is);
       longest = λ other other_kind among fits token. block_no_longer text bits other h fits (only_block other_kind (take other text) among token) }
+
+-- ---- the same at a place and a rest that are known by equations
+
+pub no_block_at : (text : List ℕ) (at : ℕ) (rest : List ℕ) → at ≡ stretch_of text → rest ≡ drop (at + 1) text
+    → (at < length text → get_or text at 0 ≡ 47 → (a : Addr) → IsAddrText (take at text) a → ¬ (HasNoneRead state.Bits rest) → ⊥)
+    → HasNoneAmong is_block text
+no_block_at text at rest place is lacks = no_block text (subst (λ (n : ℕ). n < length text → get_or text n 0 ≡ 47 → (a : Addr) → IsAddrText (take n text) a → ¬ (HasNoneRead state.Bits (drop (n + 1) text)) → ⊥) place
+    (λ within slash a h some. lacks within slash a h (subst (λ (l : List ℕ). ¬ (HasNoneRead state.Bits l)) (sym is) some)))
+
+pub block_is_longest_at : (text : List ℕ) (at : ℕ) (rest : List ℕ) (a : Addr) (bits : Front) → at ≡ stretch_of text → rest ≡ drop (at + 1) text
+    → at < length text → get_or text at 0 ≡ 47 → IsAddrText (take at text) a → IsLongestRead state.Bits rest bits
+    → IsAtLeast is_block text (record { size = at + 1 + bits.size; kind = kind.Block })
+block_is_longest_at text at rest a bits place is within slash h read = subst (λ (n : ℕ). IsAtLeast is_block text (record { size = n + 1 + bits.size; kind = kind.Block })) (sym place)
+    (block_is_longest text a bits (subst (λ (n : ℕ). n < length text) place within) (subst (λ (n : ℕ). get_or text n 0 ≡ 47) place slash)
+        (subst (λ (n : ℕ). IsAddrText (take n text) a) place h)
+        (subst (λ (n : ℕ). IsLongestRead state.Bits (drop (n + 1) text) bits) place (subst (λ (l : List ℕ). IsLongestRead state.Bits l bits) is read)))
+
+-- ---- what an answer says, by whether there is one
+
+pub some_from : {A : Type 0} (found : Option A) (P : Type 0) (Q : A → Type 0) → is_some found ≡ true → MatchOption found P Q → (x : A) × Q x
+some_from None P Q some h = absurd (cc)
+some_from (Some x) P Q some h = (x, h)
+
+pub none_from : {A : Type 0} (found : Option A) (P : Type 0) (Q : A → Type 0) → is_some found ≡ false → MatchOption found P Q → P
+none_from None P Q none h = h
+none_from (Some x) P Q none h = absurd (cc)
+
+-- ---- the place of the first byte that passes a test, or the length
+
+place_fits : (test : ℕ → Bool) (text : List ℕ) → position_or_len test text ≤ length text
+place_fits test [] = omega arith
+place_fits test (byte ∷ text) = let later : position_or_len test text ≤ length text = place_fits test text in
+    elim (cases_Bool (not (test byte))) [ inl here ↦ rw here (omega (arith, later)) | inr stop ↦ rw stop (omega arith) ]
+
+pub place_or_length : (test : ℕ → Bool) (text : List ℕ) → unwrap_or (position test text) (length text) ≡ position_or_len test text
+place_or_length test text = elim (cases_Bool (nat_lt (position_or_len test text) (length text))) [
+    inl there ↦ rw there refl
+    | inr nowhere ↦ let past : length text ≤ position_or_len test text = ltb-false _ _ nowhere in rw nowhere (omega (arith, place_fits test text)) ]

@@ -1,7 +1,7 @@
 -- A text has one cut at most, and no cut where it has a fault; how a cut grows.
 use Rattle.std.proofs.Common.{◌≡◌, ℕ, suc, zero, ◌+◌, ◌-◌, ◌<◌, ◌≤◌, ◌⊎◌, Bool, true, false, cond, ◌&&◌, List, [], ◌∷◌, ◌++◌, length, take, drop, get_or, slice_index, IsTrue, IsFalse, inl, inr, refl, sym, ◌∙◌, ap, subst, arith, le_antisymm, length-drop, length-take, add-one, add-sub_of_le}
 use Rattle.std.proofs.lemmas.Bool.{cases_Bool, cases_lt, cases_order, both_ways, and_from, false_from_ne_true, true_from_ne_false}
-use Rattle.std.proofs.lemmas.List.{get_or-drop, get_or-take, drop_more, length-take-le, take_more}
+use Rattle.std.proofs.lemmas.List.{get_or-drop, get_or-take, drop-drop, take_rest}
 use Rattle.std.proofs.lemmas.List.Folds.{list_all_at, list_all_more}
 use Rattle.std.specs.List.{list_all, between}
 use Rattle.edge_base.specs.declared.token.Token.{Token}
@@ -161,3 +161,22 @@ cut_more_token text start (first ∷ tokens) token h at = (h.0, h.1, h.2, cut_mo
 
 pub cut_at_start : (text : List ℕ) → IsCutBetween text 0 0 []
 cut_at_start text = (omega arith, no_blanks text 0)
+
+-- ---- the longest token at a place
+
+pub token_stands : (text : List ℕ) (at : ℕ) (rest : List ℕ) (size : ℕ) (token_kind : TokenKind) → rest ≡ drop at text → IsLongest rest size token_kind
+    → may_stand_before token_kind (take (length rest - size) (drop size rest)) ≡ true → IsTokenAt text (record { kind = token_kind; start = at; end = at + size })
+token_stands text at rest size token_kind is longest neighbour = record {
+    in_order = omega arith;
+    is_longest = rw (let e : at + size - at ≡ size = omega arith in e) (subst (λ (l : List ℕ). IsLongest l size token_kind) is longest);
+    neighbour = rw (← drop-drop size at text, ← is, ← take_rest rest size) neighbour }
+
+pub no_token_stands : (text : List ℕ) (at : ℕ) (rest : List ℕ) (size : ℕ) (token_kind : TokenKind) → rest ≡ drop at text → IsLongest rest size token_kind
+    → may_stand_before token_kind (take (length rest - size) (drop size rest)) ≡ false → (token : Token) → token.start ≡ at → ¬ (IsTokenAt text token)
+no_token_stands text at rest size token_kind is longest neighbour token start h =
+    let here : IsLongest rest (token.end - token.start) token.kind = subst (λ (l : List ℕ). IsLongest l (token.end - token.start) token.kind) (ap (λ (n : ℕ). drop n text) start ∙ sym is) h.is_longest in
+    let same = longest_is_one rest size (token.end - token.start) token_kind token.kind longest here in
+    let end : token.end ≡ at + size = omega (arith, same.size, h.in_order) in
+    let behind : take (length rest - size) (drop size rest) ≡ drop token.end text
+        = take_rest rest size ∙ ap (drop size) is ∙ drop-drop size at text ∙ ap (λ (n : ℕ). drop n text) (sym end) in
+    both_ways _ (sym (ap (λ (k : TokenKind). may_stand_before k (take (length rest - size) (drop size rest))) same.kind ∙ ap (may_stand_before token.kind) behind) ∙ neighbour) h.neighbour

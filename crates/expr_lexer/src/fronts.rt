@@ -78,7 +78,7 @@ fn longest_from(start: State, text: &[u8]) -> Option<Front>
 fn address_stretch(text: &[u8]) -> usize
     ensures { result ≡ stretch_of text.now }
 {
-    let near = &text[..text.len().min(MOST_ADDRESS)];
+    let near = &text[..MOST_ADDRESS.min(text.len())];
     first_other_byte(near).unwrap_or(near.len())
 }
 
