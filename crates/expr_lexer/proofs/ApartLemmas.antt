@@ -185,7 +185,8 @@ block_is_no_address : (text : List ℕ) (a b : Addr) (bits : ℕ) → IsBlockTex
 block_is_no_address text a b bits h k =
     let bytes : list_all is_address_byte (before_first is_slash text ++ 47 ∷ after_first is_slash text) ≡ true
         = ap (list_all is_address_byte) (sym (block_splits text bits h.1)) ∙ (address_face text b k).bytes in
-    let parts = and_parts _ _ (sym (list_all-append is_address_byte (before_first is_slash text) (47 ∷ after_first is_slash text)) ∙ bytes) in
+    let parts : (list_all is_address_byte (before_first is_slash text) ≡ true) × (list_all is_address_byte (47 ∷ after_first is_slash text) ≡ true)
+        = and_parts _ _ (sym (list_all-append is_address_byte (before_first is_slash text) (47 ∷ after_first is_slash text)) ∙ bytes) in
     let bad : false ≡ true = parts.1 in cc
 
 token_is_unscanned : (token_kind : TokenKind) (text : List ℕ) → is_scanned token_kind ≡ false → IsTokenOf token_kind text → IsUnscanned text

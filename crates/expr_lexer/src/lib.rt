@@ -5,6 +5,8 @@
 mod bytes;
 mod fronts;
 mod scanner;
+#[cfg(test)]
+mod tests;
 mod tokens;
 
 pub use edge_base::{Token, TokenKind, Tokens};
