@@ -1,5 +1,5 @@
 -- The bytes of an address text: which they are, how many, and what tells it from names and numbers.
-use Rattle.std.proofs.Common.{◌≡◌, ℕ, suc, ◌+◌, ◌*◌, ◌<◌, ◌≤◌, ◌⊎◌, Bool, true, false, cond, ◌&&◌, ◌||◌, ◌==◌, nat_lt, List, [], ◌∷◌, ◌++◌, length, codes, decimal, IsTrue, inl, inr, refl, sym, ◌∙◌, ap, subst, arith, length-append}
+use Rattle.std.proofs.Common.{◌≡◌, ℕ, ◌+◌, ◌*◌, ◌<◌, ◌≤◌, ◌⊎◌, Bool, true, false, cond, ◌==◌, List, [], ◌∷◌, ◌++◌, length, codes, decimal, IsTrue, inl, inr, refl, sym, ◌∙◌, ap, subst, arith, length-append}
 use Rattle.std.proofs.lemmas.Bool.{and_parts, and_from, or_left, or_right}
 use Rattle.std.proofs.lemmas.Bool.Decides.{nat_tests}
 use Rattle.std.proofs.lemmas.Fmt.{decimal_is_IsNumeral, length-decimal-le}
@@ -8,7 +8,6 @@ use Rattle.std.specs.Char.{digit_value}
 use Rattle.std.specs.List.{list_all, list_any}
 use Rattle.std.specs.Net.Addr.{segments_of}
 use Rattle.std.specs.Net.Grammar.{IsDotted, IsGroup, IsGroupsAfter, IsGroups, IsElided, IsColonHex}
-use Rattle.std.specs.Net.Text.{dotted_text}
 use Rattle.std.specs.Str.Parse.{AllDigits}
 use Rattle.edge_base.specs.declared.address.Addr.{Addr}
 use Rattle.edge_base.specs.declared.address.Addr.TheVariants as addr
@@ -64,7 +63,8 @@ octet n below =
     record {
       bytes = digits_are_bytes (decimal n) digits;
       short = length-decimal-le 3 n (omega arith) (omega arith) (omega arith);
-      first = begins (decimal n) numeral.0 digits }
+      first = begins (decimal n) numeral.0 digits;
+    }
 
 pub record IsDottedFace (text : List ℕ) : Type 0 where
   pub bytes : list_all is_address_byte text ≡ true
@@ -79,7 +79,8 @@ dotted text octets h =
       bytes = simp (list_all-append, one.bytes, two.bytes, three.bytes, four.bytes);
       short = simp length-append (omega (arith, one.short, two.short, three.short, four.short));
       first = begins-append _ _ (begins-append _ _ (begins-append _ _ (begins-append _ _ (begins-append _ _ (begins-append _ _ one.first)))));
-      dot = simp list_any-append (or_left _ _ (or_right _ _ refl)) }
+      dot = simp list_any-append (or_left _ _ (or_right _ _ refl));
+    }
 
 -- how many bytes more a V4 text at the end may have
 abbrev tail_room : Bool → ℕ
@@ -91,10 +92,11 @@ group_bytes text segment h = all_hex text h.0.0.1
 groups_bytes : (ipv4 : Bool) (lead text segments : List ℕ) → list_all is_address_byte lead ≡ true → IsGroupsAfter ipv4 lead text segments → list_all is_address_byte text ≡ true
 groups_bytes ipv4 lead text [] before h = rw h refl
 groups_bytes ipv4 lead text (segment ∷ segments) before h = elim h [
-    inl more ↦ let later : list_all is_address_byte more.1 ≡ true = groups_bytes ipv4 (codes ":") more.1 segments refl more.4 in
-        let here : list_all is_address_byte more.0 ≡ true = group_bytes more.0 segment more.3 in
-        rw more.2 (simp (list_all-append, before, here, later))
-    | inr last ↦ rw last.3 (simp (list_all-append, before, (dotted last.0 last.1 last.4).bytes)) ]
+  | inl more ↦ let later : list_all is_address_byte more.1 ≡ true = groups_bytes ipv4 (codes ":") more.1 segments refl more.4 in
+      let here : list_all is_address_byte more.0 ≡ true = group_bytes more.0 segment more.3 in
+      rw more.2 (simp (list_all-append, before, here, later))
+  | inr last ↦ rw last.3 (simp (list_all-append, before, (dotted last.0 last.1 last.4).bytes))
+]
 
 two_segments : (text octets : List ℕ) → IsDotted text octets → length (segments_of octets) ≡ 2
 two_segments text octets h = rw h.value refl
@@ -105,23 +107,26 @@ v4_room ipv4 h = rw h refl
 groups_length : (ipv4 : Bool) (lead text segments : List ℕ) → IsGroupsAfter ipv4 lead text segments → length text ≤ length lead + 5 * length segments + tail_room ipv4
 groups_length ipv4 lead text [] h = rw h (omega arith)
 groups_length ipv4 lead text (segment ∷ segments) h = elim h [
-    inl more ↦ let later : length more.1 ≤ 1 + 5 * length segments + tail_room ipv4 = groups_length ipv4 (codes ":") more.1 segments more.4 in
-        rw more.2 (simp length-append (omega (arith, later, more.3.1)))
-    | inr last ↦ let two : length (segment ∷ segments) ≡ 2 = ap length last.5 ∙ two_segments last.0 last.1 last.4 in
-        rw last.3 (simp length-append (omega (arith, two, v4_room ipv4 last.2, (dotted last.0 last.1 last.4).short))) ]
+  | inl more ↦ let later : length more.1 ≤ 1 + 5 * length segments + tail_room ipv4 = groups_length ipv4 (codes ":") more.1 segments more.4 in
+      rw more.2 (simp length-append (omega (arith, later, more.3.1)))
+  | inr last ↦ let two : length (segment ∷ segments) ≡ 2 = ap length last.5 ∙ two_segments last.0 last.1 last.4 in
+      rw last.3 (simp length-append (omega (arith, two, v4_room ipv4 last.2, (dotted last.0 last.1 last.4).short)))
+]
 
 abbrev pub is_colon : ℕ → Bool
 is_colon byte = byte == 58
 
 later_has_colon : (ipv4 : Bool) (text segments : List ℕ) (segment : ℕ) → IsGroupsAfter ipv4 (codes ":") text (segment ∷ segments) → list_any is_colon text ≡ true
 later_has_colon ipv4 text segments segment h = elim h [
-    inl more ↦ rw more.2 (simp list_any-append refl)
-    | inr last ↦ rw last.3 (simp list_any-append refl) ]
+  | inl more ↦ rw more.2 (simp list_any-append refl)
+  | inr last ↦ rw last.3 (simp list_any-append refl)
+]
 
 groups_have_colon : (ipv4 : Bool) (text segments : List ℕ) (one two three : ℕ) → IsGroupsAfter ipv4 [] text (one ∷ two ∷ three ∷ segments) → list_any is_colon text ≡ true
 groups_have_colon ipv4 text segments one two three h = elim h [
-    inl more ↦ rw more.2 (simp list_any-append (or_right _ _ (later_has_colon ipv4 more.1 (three ∷ segments) two more.4)))
-    | inr last ↦ let short : length (one ∷ two ∷ three ∷ segments) ≡ 2 = ap length last.5 ∙ two_segments last.0 last.1 last.4 in absurd (omega arith) ]
+  | inl more ↦ rw more.2 (simp list_any-append (or_right _ _ (later_has_colon ipv4 more.1 (three ∷ segments) two more.4)))
+  | inr last ↦ let short : length (one ∷ two ∷ three ∷ segments) ≡ 2 = ap length last.5 ∙ two_segments last.0 last.1 last.4 in absurd (omega arith)
+]
 
 full_has_colon : (text segments : List ℕ) → IsGroups true text segments → length segments ≡ 8 → list_any is_colon text ≡ true
 full_has_colon text [] h all = absurd (omega arith)
@@ -143,15 +148,18 @@ elided text segments h =
     subst IsColonFace (sym h.spelled) record {
       bytes = simp (list_all-append, head_bytes, tail_bytes);
       short = simp length-append (omega (arith, h.room));
-      colon = simp list_any-append (or_left _ _ (or_right _ _ refl)) }
+      colon = simp list_any-append (or_left _ _ (or_right _ _ refl));
+    }
 
 colon_hex : (text segments : List ℕ) → IsColonHex text segments → IsColonFace text
 colon_hex text segments h = elim h [
-    inl full ↦ let short : length text ≤ 0 + 5 * length segments + 5 = groups_length true [] text segments full.0 in record {
-      bytes = groups_bytes true [] text segments refl full.0;
-      short = omega (arith, full.1);
-      colon = full_has_colon text segments full.0 full.1 }
-    | inr some ↦ elided text segments some ]
+  | inl full ↦ let short : length text ≤ 0 + 5 * length segments + 5 = groups_length true [] text segments full.0 in record {
+    bytes = groups_bytes true [] text segments refl full.0;
+    short = omega (arith, full.1);
+    colon = full_has_colon text segments full.0 full.1;
+  }
+  | inr some ↦ elided text segments some
+]
 
 -- what every address text has
 pub record IsAddressFace (text : List ℕ) : Type 0 where

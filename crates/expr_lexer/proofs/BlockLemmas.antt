@@ -1,19 +1,18 @@
 -- The longest address and the longest block, by the stretch of bytes that an address can hold.
-use Rattle.std.proofs.Common.{◌≡◌, ◌≢◌, ℕ, suc, zero, ◌+◌, ◌-◌, ◌<◌, ◌≤◌, ◌⊎◌, Bool, true, false, cond, not, ◌&&◌, ◌||◌, ◌==◌, nat_lt, unwrap_or, position, MatchOption, ltb-false, List, [], ◌∷◌, ◌++◌, length, take, drop, get_or, Option, Some, None, is_some, IsSome, codes, bytes_eq, inl, inr, refl, sym, ◌∙◌, ap, subst, arith, eqb-true, zero-add, one-add, add-one, length-append, length-drop, take-append-drop, append_assoc, suc-add}
-use Rattle.std.proofs.lemmas.Bool.{cases_Bool, and_parts, both_ways}
+use Rattle.std.proofs.Common.{◌≡◌, ℕ, suc, zero, ◌+◌, ◌<◌, ◌≤◌, Bool, true, false, not, ◌==◌, nat_lt, unwrap_or, position, MatchOption, ltb-false, List, [], ◌∷◌, ◌++◌, length, take, drop, get_or, Option, Some, None, is_some, inl, inr, refl, sym, ◌∙◌, ap, subst, arith, eqb-true, zero-add, one-add, add-one, length-append, length-drop, take-append-drop, append_assoc, suc-add}
+use Rattle.std.proofs.lemmas.Bool.{cases_Bool, and_parts}
 use Rattle.std.proofs.lemmas.Bool.Decides.{nat_tests}
-use Rattle.std.proofs.lemmas.List.{take_at, drop_at, length-take-le, take-append-le, get_or_at, drop_more, take-take, drop-drop}
+use Rattle.std.proofs.lemmas.List.{take_at, drop_at, length-take-le, get_or_at, drop-drop}
 use Rattle.std.proofs.lemmas.Option.{cond_some}
-use Rattle.std.specs.List.{list_all, list_any, position_or_len, before_first, after_first}
+use Rattle.std.specs.List.{list_all, position_or_len, before_first, after_first}
 use Rattle.edge_base.specs.declared.address.Addr.{Addr}
 use Rattle.edge_base.specs.declared.token.TokenKind.{TokenKind}
 use Rattle.edge_base.specs.declared.token.TokenKind.TheVariants as kind
 use Rattle.edge_base.specs.Address.{IsAddrText}
-use Rattle.edge_base.specs.Token.{size_of, bits_of, IsBlockText, IsTokenOf}
-use Rattle.expr_lexer.specs.declared.scanner.State.{State}
+use Rattle.edge_base.specs.Token.{bits_of, IsBlockText, IsTokenOf}
 use Rattle.expr_lexer.specs.declared.scanner.State.TheVariants as state
 use Rattle.expr_lexer.specs.declared.fronts.Front.{Front}
-use Rattle.expr_lexer.specs.Scan.{kind_from, with_next, counting_of, is_address_byte, is_other_byte, stretch_of}
+use Rattle.expr_lexer.specs.Scan.{kind_from, is_address_byte, is_other_byte, stretch_of}
 use Rattle.expr_lexer.specs.Fronts.{is_block, is_address, HasNoneAmong, IsAtLeast}
 use Rattle.expr_lexer.proofs.StateLemmas.{kind_where, from_whole, not_zero, drop_past}
 use Rattle.expr_lexer.proofs.KindLemmas.{from_counting}
@@ -117,10 +116,11 @@ before_other byte text other = rw (other, one-add (position_or_len is_slash text
 pub block_splits : (text : List ℕ) (bits : ℕ) → bits_of (after_first is_slash text) ≡ Some bits → text ≡ before_first is_slash text ++ 47 ∷ after_first is_slash text
 block_splits [] bits h = absurd (cc)
 block_splits (byte ∷ text) bits h = elim (cases_Bool (is_slash byte)) [
-    inl slash ↦ rw slash (ap (λ (b : ℕ). b ∷ text) (eqb-true byte 47 slash))
-    | inr other ↦ ap (λ (rest : List ℕ). byte ∷ rest) (block_splits text bits (ap bits_of (sym (after_other byte text other)) ∙ h))
-        ∙ ap (λ (rest : List ℕ). rest ++ 47 ∷ after_first is_slash text) (sym (before_other byte text other))
-        ∙ ap (λ (rest : List ℕ). before_first is_slash (byte ∷ text) ++ 47 ∷ rest) (sym (after_other byte text other)) ]
+  | inl slash ↦ rw slash (ap (λ (b : ℕ). b ∷ text) (eqb-true byte 47 slash))
+  | inr other ↦ ap (λ (rest : List ℕ). byte ∷ rest) (block_splits text bits (ap bits_of (sym (after_other byte text other)) ∙ h))
+      ∙ ap (λ (rest : List ℕ). rest ++ 47 ∷ after_first is_slash text) (sym (before_other byte text other))
+      ∙ ap (λ (rest : List ℕ). before_first is_slash (byte ∷ text) ++ 47 ∷ rest) (sym (after_other byte text other))
+]
 
 zero_bits : (text : List ℕ) → kind_where (length text == 0) kind.Number ≡ kind_where (is_some (bits_of (48 ∷ text))) kind.Number
 zero_bits [] = refl
@@ -129,8 +129,9 @@ zero_bits (byte ∷ text) = rw (not_zero (length text)) refl
 pub from_bits : (text : List ℕ) → kind_from state.Bits text ≡ kind_where (is_some (bits_of text)) kind.Number
 from_bits [] = refl
 from_bits (byte ∷ text) = elim (cases_Bool (byte == 48)) [
-    inl is_zero ↦ rw (eqb-true byte 48 is_zero) (from_whole kind.Number text ∙ zero_bits text)
-    | inr other ↦ rw other (rw other at (from_counting 999 byte text (omega arith))) ]
+  | inl is_zero ↦ rw (eqb-true byte 48 is_zero) (from_whole kind.Number text ∙ zero_bits text)
+  | inr other ↦ rw other (rw other at (from_counting 999 byte text (omega arith)))
+]
 
 -- a block at the front of a text, in its parts
 pub record IsBlockAt (text : List ℕ) (size : ℕ) : Type 0 where
@@ -149,11 +150,15 @@ block_at text size a bits within h =
     let rest = after_first is_slash (take size text) in
     let parts : take size text ≡ front ++ 47 ∷ rest = block_splits (take size text) bits h.1 in
     record {
-      front = front; bits = rest; behind = drop size text; a = a;
+      front = front;
+      bits = rest;
+      behind = drop size text;
+      a = a;
       is_split = sym (take-append-drop size text) ∙ ap (λ (l : List ℕ). l ++ drop size text) parts ∙ append_assoc front (47 ∷ rest) (drop size text);
       is_address = h.0;
       read = from_bits rest ∙ ap (λ (found : Option ℕ). kind_where (is_some found) kind.Number) h.1;
-      is_size = sym (length-take-le size text within) ∙ ap length parts ∙ length-append front (47 ∷ rest) ∙ (let e : length front + suc (length rest) ≡ length front + 1 + length rest = omega arith in e) }
+      is_size = sym (length-take-le size text within) ∙ ap length parts ∙ length-append front (47 ∷ rest) ∙ (let e : length front + suc (length rest) ≡ length front + 1 + length rest = omega arith in e);
+    }
 
 -- where the block's `/` stands
 pub record IsSlashAt (text front rest : List ℕ) : Type 0 where
@@ -172,7 +177,8 @@ slash_in front rest a h =
       within = rw (place, length-append front (47 ∷ rest)) (omega arith);
       slash = rw place (get_or_at front 47 rest 0 (length front) refl);
       before = rw place (take_at front (47 ∷ rest) (length front) refl);
-      after = rw place (behind_slash front rest) }
+      after = rw place (behind_slash front rest);
+    }
 
 pub slash_at : (text front rest : List ℕ) (a : Addr) → text ≡ front ++ 47 ∷ rest → IsAddrText front a → IsSlashAt text front rest
 slash_at text front rest a split h = subst (λ (t : List ℕ). IsSlashAt t front rest) (sym split) (slash_in front rest a h)
@@ -180,22 +186,22 @@ slash_at text front rest a split h = subst (λ (t : List ℕ). IsSlashAt t front
 -- no block stands at the front where none of its parts does
 pub no_block : (text : List ℕ)
     → (stretch_of text < length text → get_or text (stretch_of text) 0 ≡ 47 → (a : Addr) → IsAddrText (take (stretch_of text) text) a
-        → ¬ (HasNoneRead state.Bits (drop (stretch_of text + 1) text)) → ⊥)
+    → ¬ (HasNoneRead state.Bits (drop (stretch_of text + 1) text)) → ⊥)
     → HasNoneAmong is_block text
 no_block text lacks size token_kind among within token =
     let (a, bits, h) = only_block token_kind (take size text) among token in
     let b : IsBlockAt text size = block_at text size a bits within h in
     let at : IsSlashAt text b.front (b.bits ++ b.behind) = slash_at text b.front (b.bits ++ b.behind) b.a b.is_split b.is_address in
     lacks at.within at.slash b.a (subst (λ (t : List ℕ). IsAddrText t b.a) (sym at.before) b.is_address)
-        (λ none. let unread : kind_from state.Bits (take (length b.bits) (drop (stretch_of text + 1) text)) ≡ None
-                = none (length b.bits) (omega (arith, ap length at.after, length-append b.bits b.behind)) in
-            let same : take (length b.bits) (drop (stretch_of text + 1) text) ≡ b.bits = ap (take (length b.bits)) at.after ∙ take_at b.bits b.behind (length b.bits) refl in
-            let bad : None ≡ Some kind.Number = sym unread ∙ ap (kind_from state.Bits) same ∙ b.read in absurd (cc))
+    (λ none. let unread : kind_from state.Bits (take (length b.bits) (drop (stretch_of text + 1) text)) ≡ None
+    = none (length b.bits) (omega (arith, ap length at.after, length-append b.bits b.behind)) in
+    let same : take (length b.bits) (drop (stretch_of text + 1) text) ≡ b.bits = ap (take (length b.bits)) at.after ∙ take_at b.bits b.behind (length b.bits) refl in
+    let bad : None ≡ Some kind.Number = sym unread ∙ ap (kind_from state.Bits) same ∙ b.read in absurd (cc))
 
 around_slash : (text : List ℕ) (at size : ℕ) → at < length text → get_or text at 0 ≡ 47 → take (at + 1 + size) text ≡ take at text ++ 47 ∷ take size (drop (at + 1) text)
 around_slash [] at size within slash = absurd (omega arith)
 around_slash (byte ∷ text) zero size within slash = rw (zero-add 1, one-add size) (ap (λ (b : ℕ). b ∷ take size text) slash)
-around_slash (byte ∷ text) (suc at) size within slash = 
+around_slash (byte ∷ text) (suc at) size within slash =
     rw (add-one (suc at), suc-add (suc at) size) (ap (λ (rest : List ℕ). byte ∷ rest) (rw (add-one at) at (around_slash text at size (omega arith) slash)))
 
 value_of : {A : Type 0} (found : Option A) → is_some found ≡ true → (x : A) × (found ≡ Some x)
@@ -222,7 +228,8 @@ block_is_longest text a bits within slash is_addr h =
       within = omega (arith, h.within, length-drop (stretch_of text + 1) text);
       is_token = rw (around_slash text (stretch_of text) bits.size within slash)
           (a, value, block_text (take (stretch_of text) text) rest a value is_addr is);
-      longest = λ other other_kind among fits token. block_no_longer text bits other h fits (only_block other_kind (take other text) among token) }
+      longest = λ other other_kind among fits token. block_no_longer text bits other h fits (only_block other_kind (take other text) among token);
+    }
 
 -- ---- the same at a place and a rest that are known by equations
 
@@ -237,8 +244,8 @@ pub block_is_longest_at : (text : List ℕ) (at : ℕ) (rest : List ℕ) (a : Ad
     → IsAtLeast is_block text (record { size = at + 1 + bits.size; kind = kind.Block })
 block_is_longest_at text at rest a bits place is within slash h read = subst (λ (n : ℕ). IsAtLeast is_block text (record { size = n + 1 + bits.size; kind = kind.Block })) (sym place)
     (block_is_longest text a bits (subst (λ (n : ℕ). n < length text) place within) (subst (λ (n : ℕ). get_or text n 0 ≡ 47) place slash)
-        (subst (λ (n : ℕ). IsAddrText (take n text) a) place h)
-        (subst (λ (n : ℕ). IsLongestRead state.Bits (drop (n + 1) text) bits) place (subst (λ (l : List ℕ). IsLongestRead state.Bits l bits) is read)))
+    (subst (λ (n : ℕ). IsAddrText (take n text) a) place h)
+    (subst (λ (n : ℕ). IsLongestRead state.Bits (drop (n + 1) text) bits) place (subst (λ (l : List ℕ). IsLongestRead state.Bits l bits) is read)))
 
 -- ---- what an answer says, by whether there is one
 
@@ -259,5 +266,6 @@ place_fits test (byte ∷ text) = let later : position_or_len test text ≤ leng
 
 pub place_or_length : (test : ℕ → Bool) (text : List ℕ) → unwrap_or (position test text) (length text) ≡ position_or_len test text
 place_or_length test text = elim (cases_Bool (nat_lt (position_or_len test text) (length text))) [
-    inl there ↦ rw there refl
-    | inr nowhere ↦ let past : length text ≤ position_or_len test text = ltb-false _ _ nowhere in rw nowhere (omega (arith, place_fits test text)) ]
+  | inl there ↦ rw there refl
+  | inr nowhere ↦ let past : length text ≤ position_or_len test text = ltb-false _ _ nowhere in rw nowhere (omega (arith, place_fits test text))
+]

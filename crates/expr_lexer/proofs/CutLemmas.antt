@@ -1,6 +1,6 @@
 -- A text has one cut at most, and no cut where it has a fault; how a cut grows.
-use Rattle.std.proofs.Common.{◌≡◌, ℕ, suc, zero, ◌+◌, ◌-◌, ◌<◌, ◌≤◌, ◌⊎◌, Bool, true, false, cond, ◌&&◌, List, [], ◌∷◌, ◌++◌, length, take, drop, get_or, slice_index, IsTrue, IsFalse, inl, inr, refl, sym, ◌∙◌, ap, subst, arith, le_antisymm, length-drop, length-take, add-one, add-sub_of_le}
-use Rattle.std.proofs.lemmas.Bool.{cases_Bool, cases_lt, cases_order, both_ways, and_from, false_from_ne_true, true_from_ne_false}
+use Rattle.std.proofs.Common.{◌≡◌, ℕ, suc, zero, ◌+◌, ◌-◌, ◌<◌, ◌≤◌, true, false, List, [], ◌∷◌, ◌++◌, length, take, drop, get_or, slice_index, IsTrue, inl, inr, refl, sym, ◌∙◌, ap, subst, arith, le_antisymm, length-drop, length-take, add-sub_of_le}
+use Rattle.std.proofs.lemmas.Bool.{cases_lt, cases_order, both_ways, and_from, false_from_ne_true, true_from_ne_false}
 use Rattle.std.proofs.lemmas.List.{get_or-drop, get_or-take, drop-drop, take_rest}
 use Rattle.std.proofs.lemmas.List.Folds.{list_all_at, list_all_more}
 use Rattle.std.specs.List.{list_all, between}
@@ -56,8 +56,12 @@ token_starts text token h =
     let some : 0 < token.end - token.start = nonempty (drop token.start text) (token.end - token.start) token.kind h.is_longest.is_token in
     let within : token.end - token.start ≤ length text - token.start = omega (arith, h.is_longest.within, length-drop token.start text) in
     let first : is_blank (slice_index (drop token.start text) 0) ≡ false = begins (drop token.start text) (token.end - token.start) token.kind h.is_longest.is_token in
-    record { within = omega (arith, h.in_order); some = omega arith; fits = omega (arith, h.in_order);
-        no_blank = rw (get_or-drop token.start text 0 0, (let e : token.start + 0 ≡ token.start = omega arith in e)) at first }
+    record {
+      within = omega (arith, h.in_order);
+      some = omega arith;
+      fits = omega (arith, h.in_order);
+      no_blank = rw (get_or-drop token.start text 0 0, (let e : token.start + 0 ≡ token.start = omega arith in e)) at first;
+    }
 
 -- ---- blanks
 
@@ -67,7 +71,7 @@ length_inside text start end at from to within = omega (arith, length-take (end 
 pub blank_inside : (text : List ℕ) (start end at : ℕ) → IsTrue (list_all is_blank (between start end text)) → start ≤ at → at < end → at < length text → is_blank (slice_index text at) ≡ true
 blank_inside text start end at h from to within = true_from_ne_false (is_blank (slice_index text at)) (λ other.
     let same : get_or (take (end - start) (drop start text)) (at - start) 0 ≡ get_or text at 0
-        = get_or-take (end - start) (drop start text) (at - start) 0 (omega arith) ∙ get_or-drop start text (at - start) 0 ∙ ap (λ (n : ℕ). get_or text n 0) (add-sub_of_le from) in
+    = get_or-take (end - start) (drop start text) (at - start) 0 (omega arith) ∙ get_or-drop start text (at - start) 0 ∙ ap (λ (n : ℕ). get_or text n 0) (add-sub_of_le from) in
     both_ways _ (list_all_at is_blank (take (end - start) (drop start text)) (at - start) 0 (omega (arith, length_inside text start end at from to within)) (ap is_blank same ∙ other)) h)
 
 -- ---- one cut
@@ -75,10 +79,12 @@ blank_inside text start end at h from to within = true_from_ne_false (is_blank (
 same_start : (text : List ℕ) (start : ℕ) (one other : Token) → start ≤ one.start → IsTrue (list_all is_blank (between start one.start text))
     → start ≤ other.start → IsTrue (list_all is_blank (between start other.start text)) → IsTokenAt text one → IsTokenAt text other → one.start ≡ other.start
 same_start text start one other from blanks onward others h k = elim (cases_order one.start other.start) [
-    inl same ↦ same
-    | inr apart ↦ elim apart [
-        inl before ↦ let s = token_starts text one h in absurd (both_ways _ s.no_blank (blank_inside text start other.start one.start others from before s.within))
-        | inr behind ↦ let s = token_starts text other k in absurd (both_ways _ s.no_blank (blank_inside text start one.start other.start blanks onward behind s.within)) ] ]
+  | inl same ↦ same
+  | inr apart ↦ elim apart [
+    | inl before ↦ let s = token_starts text one h in absurd (both_ways _ s.no_blank (blank_inside text start other.start one.start others from before s.within))
+    | inr behind ↦ let s = token_starts text other k in absurd (both_ways _ s.no_blank (blank_inside text start one.start other.start blanks onward behind s.within))
+  ]
+]
 
 blanks_hold_no_token : (text : List ℕ) (start end : ℕ) (token : Token) → IsTrue (list_all is_blank (between start end text)) → start ≤ token.start → token.start < end → IsTokenAt text token → ⊥
 blanks_hold_no_token text start end token blanks from to h = let s = token_starts text token h in
@@ -109,16 +115,20 @@ pub record IsFault (text : List ℕ) (at : ℕ) : Type 0 where
 -- no cut from the same place gets past a fault
 pub fault_stops : (text : List ℕ) (start at end : ℕ) (before tokens : List Token) → IsFault text at → IsCutBetween text start at before → IsCutBetween text start end tokens → end ≤ at
 fault_stops text start at end [] [] fault h k = elim (cases_lt at end) [
-    inl past ↦ absurd (both_ways _ fault.no_blank (blank_inside text start end at k.1 h.0 past fault.within))
-    | inr not_past ↦ not_past ]
+  | inl past ↦ absurd (both_ways _ fault.no_blank (blank_inside text start end at k.1 h.0 past fault.within))
+  | inr not_past ↦ not_past
+]
 fault_stops text start at end [] (token ∷ tokens) fault h k = absurd (elim (cases_order token.start at) [
-    inl same ↦ fault.no_token token same k.2
-    | inr apart ↦ elim apart [
-        inl before ↦ blanks_hold_no_token text start at token h.1 k.0 before k.2
-        | inr behind ↦ both_ways _ fault.no_blank (blank_inside text start token.start at k.1 h.0 behind fault.within) ] ])
+  | inl same ↦ fault.no_token token same k.2
+  | inr apart ↦ elim apart [
+    | inl before ↦ blanks_hold_no_token text start at token h.1 k.0 before k.2
+    | inr behind ↦ both_ways _ fault.no_blank (blank_inside text start token.start at k.1 h.0 behind fault.within)
+  ]
+])
 fault_stops text start at end (token ∷ before) [] fault h k = elim (cases_lt token.start end) [
-    inl past ↦ absurd (blanks_hold_no_token text start end token k.1 h.0 past h.2)
-    | inr not_past ↦ let on : token.end ≤ at = cut_goes_on text token.end at before h.3 in omega (arith, h.2.in_order) ]
+  | inl past ↦ absurd (blanks_hold_no_token text start end token k.1 h.0 past h.2)
+  | inr not_past ↦ let on : token.end ≤ at = cut_goes_on text token.end at before h.3 in omega (arith, h.2.in_order)
+]
 fault_stops text start at end (token ∷ before) (next ∷ tokens) fault h k =
     let same : token ≡ next = token_at_is_one text token next h.2 k.2 (same_start text start token next h.0 h.1 k.0 k.1 h.2 k.2) in
     fault_stops text token.end at end before tokens fault h.3 (subst (λ (t : Token). IsCutBetween text t.end end tokens) (sym same) k.3)
@@ -144,7 +154,7 @@ one_more_blank text start at from within blanks blank =
     let same : get_or (drop start text) (at - start) 0 ≡ get_or text at 0 = get_or-drop start text (at - start) 0 ∙ ap (λ (n : ℕ). get_or text n 0) (add-sub_of_le from) in
     let sizes : at + 1 - start ≡ at - start + 1 = omega arith in
     rw (sizes, list_all_more is_blank (drop start text) (at - start) 0 (omega (arith, length-drop start text)))
-        (and_from _ _ blanks (ap is_blank same ∙ blank))
+    (and_from _ _ blanks (ap is_blank same ∙ blank))
 
 pub cut_more_blank : (text : List ℕ) (start at : ℕ) (tokens : List Token) → IsCutBetween text start at tokens → at < length text → is_blank (slice_index text at) ≡ true
     → IsCutBetween text start (at + 1) tokens
@@ -167,9 +177,10 @@ cut_at_start text = (omega arith, no_blanks text 0)
 pub token_stands : (text : List ℕ) (at : ℕ) (rest : List ℕ) (size : ℕ) (token_kind : TokenKind) → rest ≡ drop at text → IsLongest rest size token_kind
     → may_stand_before token_kind (take (length rest - size) (drop size rest)) ≡ true → IsTokenAt text (record { kind = token_kind; start = at; end = at + size })
 token_stands text at rest size token_kind is longest neighbour = record {
-    in_order = omega arith;
-    is_longest = rw (let e : at + size - at ≡ size = omega arith in e) (subst (λ (l : List ℕ). IsLongest l size token_kind) is longest);
-    neighbour = rw (← drop-drop size at text, ← is, ← take_rest rest size) neighbour }
+  in_order = omega arith;
+  is_longest = rw (let e : at + size - at ≡ size = omega arith in e) (subst (λ (l : List ℕ). IsLongest l size token_kind) is longest);
+  neighbour = rw (← drop-drop size at text, ← is, ← take_rest rest size) neighbour;
+}
 
 pub no_token_stands : (text : List ℕ) (at : ℕ) (rest : List ℕ) (size : ℕ) (token_kind : TokenKind) → rest ≡ drop at text → IsLongest rest size token_kind
     → may_stand_before token_kind (take (length rest - size) (drop size rest)) ≡ false → (token : Token) → token.start ≡ at → ¬ (IsTokenAt text token)
@@ -178,5 +189,5 @@ no_token_stands text at rest size token_kind is longest neighbour token start h 
     let same = longest_is_one rest size (token.end - token.start) token_kind token.kind longest here in
     let end : token.end ≡ at + size = omega (arith, same.size, h.in_order) in
     let behind : take (length rest - size) (drop size rest) ≡ drop token.end text
-        = take_rest rest size ∙ ap (drop size) is ∙ drop-drop size at text ∙ ap (λ (n : ℕ). drop n text) (sym end) in
+    = take_rest rest size ∙ ap (drop size) is ∙ drop-drop size at text ∙ ap (λ (n : ℕ). drop n text) (sym end) in
     both_ways _ (sym (ap (λ (k : TokenKind). may_stand_before k (take (length rest - size) (drop size rest))) same.kind ∙ ap (may_stand_before token.kind) behind) ∙ neighbour) h.neighbour

@@ -1,18 +1,11 @@
 -- The best front that is read is the longest token of the kinds that are read.
-use Rattle.std.proofs.Common.{◌≡◌, ℕ, suc, zero, ◌+◌, ◌<◌, ◌≤◌, ◌⊎◌, Bool, true, false, cond, ◌==◌, List, [], ◌∷◌, length, take, Option, Some, None, option_map, is_some, IsSome, MatchOption, IsTrue, codes, bytes_eq, inl, inr, refl, sym, ◌∙◌, ap, subst, arith, eqb-true, zero-add}
-use Rattle.std.proofs.lemmas.Bool.{cases_Bool, cases_lt, not_from_false}
-use Rattle.std.proofs.lemmas.Bool.Decides.{nat_tests}
+use Rattle.std.proofs.Common.{◌≡◌, ℕ, suc, zero, ◌+◌, ◌<◌, ◌≤◌, ◌⊎◌, List, [], ◌∷◌, length, take, Option, Some, None, MatchOption, inl, inr, refl, sym, ◌∙◌, ap, subst, arith, zero-add}
+use Rattle.std.proofs.lemmas.Bool.{cases_lt}
 use Rattle.edge_base.specs.declared.token.TokenKind.{TokenKind}
-use Rattle.edge_base.specs.declared.token.TokenKind.TheVariants as kind
-use Rattle.edge_base.specs.Token.{is_reserved, is_counting, size_of, bits_of, IsTokenOf}
-use Rattle.edge_base.specs.Cut.{IsLongest}
 use Rattle.expr_lexer.specs.declared.scanner.State.{State}
-use Rattle.expr_lexer.specs.declared.scanner.State.TheVariants as state
 use Rattle.expr_lexer.specs.declared.fronts.Front.{Front}
 use Rattle.expr_lexer.specs.Scan.{next_of, kind_in, kind_from, with_next}
-use Rattle.expr_lexer.specs.Fronts.{better, best_from, is_scanned, is_block, is_address, kind_of_name, longer_of, HasNoneAmong, HasNoToken, IsAtLeast, IsLongestAmong}
-use Rattle.expr_lexer.proofs.StateLemmas.{kind_where, from_whole, not_zero}
-use Rattle.expr_lexer.proofs.KindLemmas.{Shape, scan_gives, scan_takes, reserved_is_name, from_counting}
+use Rattle.expr_lexer.specs.Fronts.{better, best_from}
 
 -- ---- the best front
 
@@ -21,16 +14,16 @@ abbrev IsBest : State → List ℕ → ℕ → Option Front → Option Front →
 IsBest from text at best result =
     ((result ≡ best) × ((size : ℕ) → 0 < size → size ≤ length text → kind_from from (take size text) ≡ None))
     ⊎ ((more : ℕ) × (token_kind : TokenKind) × (result ≡ Some (record { size = at + more; kind = token_kind })) × (0 < more) × (more ≤ length text)
-        × (kind_from from (take more text) ≡ Some token_kind)
-        × ((size : ℕ) → more < size → size ≤ length text → kind_from from (take size text) ≡ None))
+    × (kind_from from (take more text) ≡ Some token_kind)
+    × ((size : ℕ) → more < size → size ≤ length text → kind_from from (take size text) ≡ None))
 
 -- the same behind a byte that was read or not
 abbrev IsBestBehind : Option State → List ℕ → ℕ → Option Front → Option Front → Type 0
 IsBestBehind read text at best result =
     ((result ≡ best) × ((size : ℕ) → size ≤ length text → with_next read None (λ next. kind_from next (take size text)) ≡ None))
     ⊎ ((more : ℕ) × (token_kind : TokenKind) × (result ≡ Some (record { size = at + 1 + more; kind = token_kind })) × (more ≤ length text)
-        × (with_next read None (λ next. kind_from next (take more text)) ≡ Some token_kind)
-        × ((size : ℕ) → more < size → size ≤ length text → with_next read None (λ next. kind_from next (take size text)) ≡ None))
+    × (with_next read None (λ next. kind_from next (take more text)) ≡ Some token_kind)
+    × ((size : ℕ) → more < size → size ≤ length text → with_next read None (λ next. kind_from next (take size text)) ≡ None))
 
 none_at : (next : State) (text : List ℕ) → kind_in next ≡ None
     → ((size : ℕ) → 0 < size → size ≤ length text → kind_from next (take size text) ≡ None)
@@ -73,8 +66,15 @@ in_front : (from : State) (byte : ℕ) (text : List ℕ) (at : ℕ) (best result
     → IsBestBehind (next_of from byte) text at best result → IsBest from (byte ∷ text) at best result
 in_front from byte text at best result (inl kept) = inl (kept.0, all_none from byte text kept.1)
 in_front from byte text at best result (inr found) =
-    inr (suc found.0, found.1, found.2 ∙ ap (λ (n : ℕ). Some (record { size = n; kind = found.1 })) (let e : at + 1 + found.0 ≡ at + suc found.0 = omega arith in e),
-        omega arith, omega (arith, found.3), found.4, none_beyond from byte text found.0 found.5)
+    inr (
+      suc found.0,
+      found.1,
+      found.2 ∙ ap (λ (n : ℕ). Some (record { size = n; kind = found.1 })) (let e : at + 1 + found.0 ≡ at + suc found.0 = omega arith in e),
+      omega arith,
+      omega (arith, found.3),
+      found.4,
+      none_beyond from byte text found.0 found.5,
+    )
 
 best_is : (from : State) (text : List ℕ) (at : ℕ) (best : Option Front) → IsBest from text at best (best_from from text at best)
 best_is from [] at best = inl (refl, λ size some within. absurd (omega arith))
@@ -93,8 +93,9 @@ longest_by : (from : State) (text : List ℕ) (front : Front)
     → ((size : ℕ) → front.size < size → size ≤ length text → kind_from from (take size text) ≡ None)
     → (size : ℕ) (token_kind : TokenKind) → size ≤ length text → kind_from from (take size text) ≡ Some token_kind → size ≤ front.size
 longest_by from text front none size token_kind within read = elim (cases_lt front.size size) [
-    inl beyond ↦ let bad : None ≡ Some token_kind = sym (none size beyond within) ∙ read in absurd (cc)
-    | inr fits ↦ fits ]
+  | inl beyond ↦ let bad : None ≡ Some token_kind = sym (none size beyond within) ∙ read in absurd (cc)
+  | inr fits ↦ fits
+]
 
 same_front : (a b : Front) → ◌≡◌ {A = Option Front} (Some a) (Some b) → a ≡ b
 same_front a b h = cc

@@ -1,19 +1,18 @@
 -- What the scanner reads from the start is a token of its kind, and each such token is read.
-use Rattle.std.proofs.Common.{◌≡◌, ℕ, suc, zero, ◌+◌, ◌-◌, ◌*◌, ◌^◌, ◌<◌, ◌≤◌, ◌⊎◌, Bool, true, false, cond, not, ◌&&◌, ◌||◌, nat_le, ◌==◌, List, [], ◌∷◌, length, drop, slice_index, is_some, IsSome, Option, Some, None, option_map, codes, bytes_eq, pos, neg_ℤ, inl, inr, refl, sym, ◌∙◌, ap, subst, arith, zero-add, eqb-true, le-leb, leb-true}
+use Rattle.std.proofs.Common.{◌≡◌, ℕ, ◌+◌, ◌-◌, ◌*◌, ◌^◌, ◌≤◌, Bool, true, false, cond, not, ◌&&◌, nat_le, ◌==◌, List, [], ◌∷◌, length, slice_index, is_some, IsSome, Option, Some, None, codes, bytes_eq, pos, neg_ℤ, inl, inr, refl, sym, ◌∙◌, ap, subst, arith, zero-add, eqb-true, leb-true}
 use Rattle.std.proofs.lemmas.Bool.{cases_Bool, or_cases, and_parts, both_ways}
 use Rattle.std.proofs.lemmas.Bool.Decides.{nat_tests}
 use Rattle.std.proofs.lemmas.Option.{cond_some}
 use Rattle.std.proofs.lemmas.Slice.Eq.{bytes_eq-Decides}
-use Rattle.std.specs.List.{list_all, list_any, slice_split}
-use Rattle.std.specs.Str.Parse.{digits_value_after, digits_value}
-use Rattle.std.specs.Char.{digit_value}
+use Rattle.std.specs.List.{list_all, list_any}
+use Rattle.std.specs.Str.Parse.{digits_value}
 use Rattle.edge_base.specs.declared.token.TokenKind.{TokenKind}
 use Rattle.edge_base.specs.declared.token.TokenKind.TheVariants as kind
-use Rattle.edge_base.specs.Token.{is_digit, is_name_start, is_name_byte, is_name, is_reserved, reserved_words, is_counting, size_of, bits_of, number_of, quoted_of, text_of, raw_bytes_of, marks_of, raw_text_of, list_name_of, is_symbol, symbols}
+use Rattle.edge_base.specs.Token.{is_digit, is_name_start, is_name_byte, is_name, is_reserved, reserved_words, is_counting, size_of, number_of, quoted_of, text_of, marks_of, raw_text_of, list_name_of, is_symbol, symbols}
 use Rattle.expr_lexer.specs.declared.scanner.State.{State}
 use Rattle.expr_lexer.specs.declared.scanner.State.TheVariants as state
-use Rattle.expr_lexer.specs.Scan.{kind_from, first_of, symbol_of, counting_of, leading_digit_of, list_name_after, with_next, is_lone, is_comparison, is_doubled}
-use Rattle.expr_lexer.proofs.StateLemmas.{kind_where, from_whole, from_list_name, from_digits, digit_is, not_zero, is_rest, name_is, rest_is, is_dot, in_name, in_text, in_raw, from_marks, is_raw_behind, and_false, is_some-map, mark_is_no_quote}
+use Rattle.expr_lexer.specs.Scan.{kind_from, first_of, symbol_of, counting_of, leading_digit_of, with_next, is_lone, is_comparison, is_doubled}
+use Rattle.expr_lexer.proofs.StateLemmas.{kind_where, from_whole, from_list_name, from_digits, digit_is, not_zero, is_rest, name_is, rest_is, in_name, in_text, from_marks, is_raw_behind, is_some-map, mark_is_no_quote}
 
 -- the tokens that the scanner reads; a reserved word is a name
 abbrev pub Shape : TokenKind → List ℕ → Type 0
@@ -60,11 +59,13 @@ size_is_some most digits = is_some-cond _ _
 pub from_counting : (most byte : ℕ) (text : List ℕ) → 9 ≤ most
     → with_next (counting_of most byte) None (λ next. kind_from next text) ≡ kind_where (is_some (size_of most (byte ∷ text))) kind.Number
 from_counting most byte text room = rw (size_is_some most (byte ∷ text)) (elim (cases_Bool (byte == 48)) [
-    inl is_zero ↦ rw (is_zero, zero_counts_not byte is_zero) refl
-    | inr other ↦ elim (cases_Bool (is_digit byte)) [
-        inl digit ↦ rw (other, counts byte digit other, digit, small_digit byte most digit room, digit_is byte digit)
-            (from_digits most (0 * 10 + (byte - 48)) text (leb-true _ _ (small_digit byte most digit room)))
-        | inr none ↦ rw (other, none, other_counts_not byte none) refl ] ])
+  | inl is_zero ↦ rw (is_zero, zero_counts_not byte is_zero) refl
+  | inr other ↦ elim (cases_Bool (is_digit byte)) [
+    | inl digit ↦ rw (other, counts byte digit other, digit, small_digit byte most digit room, digit_is byte digit)
+        (from_digits most (0 * 10 + (byte - 48)) text (leb-true _ _ (small_digit byte most digit room)))
+    | inr none ↦ rw (other, none, other_counts_not byte none) refl
+  ]
+])
 
 pub from_minus : (text : List ℕ) → kind_from state.Minus text ≡ kind_where (is_some (size_of (2 ^ 63) text)) kind.Number
 from_minus [] = refl
@@ -95,13 +96,15 @@ raw_is text = rw (zero-add (marks_of text)) (raw_cond (nat_le (marks_of text) 8 
 letter_gives : (text : List ℕ) (token_kind : TokenKind) → kind_from state.Letter text ≡ Some token_kind → Shape token_kind (114 ∷ text)
 letter_gives [] token_kind h = settle (114 ∷ []) kind.Name token_kind true (Some kind.Name) refl (λ _. refl) h
 letter_gives (byte ∷ text) token_kind h = elim (cases_Bool (byte == 35)) [
-    inl mark ↦ settle _ kind.RawText token_kind (is_raw_behind 0 (byte ∷ text)) (kind_from state.Letter (byte ∷ text))
-        (rw mark (rw (mark, mark_is_no_quote byte mark) at (from_marks 0 (byte ∷ text) (omega arith)))) (λ behind. raw_is (byte ∷ text) ∙ behind) h
-    | inr other ↦ elim (cases_Bool (byte == 34)) [
-        inl quote ↦ settle _ kind.RawText token_kind (is_raw_behind 0 (byte ∷ text)) (kind_from state.Letter (byte ∷ text))
-            (rw (other, quote) (rw (other, quote) at (from_marks 0 (byte ∷ text) (omega arith)))) (λ behind. raw_is (byte ∷ text) ∙ behind) h
-        | inr plain ↦ settle _ kind.Name token_kind (is_rest (byte ∷ text)) (kind_from state.Letter (byte ∷ text))
-            (rw (other, plain) (in_name (byte ∷ text)).part) (λ rest. name_is 114 (byte ∷ text) ∙ rest) h ] ]
+  | inl mark ↦ settle _ kind.RawText token_kind (is_raw_behind 0 (byte ∷ text)) (kind_from state.Letter (byte ∷ text))
+      (rw mark (rw (mark, mark_is_no_quote byte mark) at (from_marks 0 (byte ∷ text) (omega arith)))) (λ behind. raw_is (byte ∷ text) ∙ behind) h
+  | inr other ↦ elim (cases_Bool (byte == 34)) [
+    | inl quote ↦ settle _ kind.RawText token_kind (is_raw_behind 0 (byte ∷ text)) (kind_from state.Letter (byte ∷ text))
+        (rw (other, quote) (rw (other, quote) at (from_marks 0 (byte ∷ text) (omega arith)))) (λ behind. raw_is (byte ∷ text) ∙ behind) h
+    | inr plain ↦ settle _ kind.Name token_kind (is_rest (byte ∷ text)) (kind_from state.Letter (byte ∷ text))
+        (rw (other, plain) (in_name (byte ∷ text)).part) (λ rest. name_is 114 (byte ∷ text) ∙ rest) h
+  ]
+]
 
 digit_is_no_minus : (byte : ℕ) → is_digit byte ≡ true → (byte == 45) ≡ false
 digit_is_no_minus byte digit = grind (arith, nat_tests)
@@ -109,11 +112,12 @@ digit_is_no_minus byte digit = grind (arith, nat_tests)
 leading_gives : (byte : ℕ) (text : List ℕ) (token_kind : TokenKind) → is_digit byte ≡ true
     → with_next (leading_digit_of (2 ^ 63 - 1) byte) None (λ next. kind_from next text) ≡ Some token_kind → Shape token_kind (byte ∷ text)
 leading_gives byte text token_kind digit h = elim (cases_Bool (byte == 48)) [
-    inl is_zero ↦ settle _ kind.Number token_kind (length text == 0) _ (rw is_zero (from_whole kind.Number text))
-        (λ ended. rw (eqb-true byte 48 is_zero, is_nil text ended) refl) h
-    | inr other ↦ settle _ kind.Number token_kind (is_some (size_of (2 ^ 63 - 1) (byte ∷ text))) _
-        (rw other (rw other at (from_counting (2 ^ 63 - 1) byte text (omega arith))))
-        (λ size. rw (other, digit_is_no_minus byte digit, is_some-map pos (size_of (2 ^ 63 - 1) (byte ∷ text))) size) h ]
+  | inl is_zero ↦ settle _ kind.Number token_kind (length text == 0) _ (rw is_zero (from_whole kind.Number text))
+      (λ ended. rw (eqb-true byte 48 is_zero, is_nil text ended) refl) h
+  | inr other ↦ settle _ kind.Number token_kind (is_some (size_of (2 ^ 63 - 1) (byte ∷ text))) _
+      (rw other (rw other at (from_counting (2 ^ 63 - 1) byte text (omega arith))))
+      (λ size. rw (other, digit_is_no_minus byte digit, is_some-map pos (size_of (2 ^ 63 - 1) (byte ∷ text))) size) h
+]
 
 minus_gives : (text : List ℕ) (token_kind : TokenKind) → kind_from state.Minus text ≡ Some token_kind → Shape token_kind (45 ∷ text)
 minus_gives text token_kind h = settle _ kind.Number token_kind (is_some (size_of (2 ^ 63) text)) _ (from_minus text)
@@ -139,28 +143,33 @@ comparison_gives : (first : ℕ) (text : List ℕ) (token_kind : TokenKind) → 
     → kind_from state.Comparison text ≡ Some token_kind → Shape token_kind (first ∷ text)
 comparison_gives first [] token_kind is h = settle _ kind.Symbol token_kind true (Some kind.Symbol) refl (λ _. (pairs_are_symbols first is).0) h
 comparison_gives first (byte ∷ text) token_kind is h = elim (cases_Bool (byte == 61)) [
-    inl equals ↦ settle _ kind.Symbol token_kind (length text == 0) _ (rw equals (from_whole kind.Symbol text))
-        (λ ended. rw (eqb-true byte 61 equals, is_nil text ended) (pairs_are_symbols first is).1) h
-    | inr other ↦ nothing _ token_kind (rw other at h) ]
+  | inl equals ↦ settle _ kind.Symbol token_kind (length text == 0) _ (rw equals (from_whole kind.Symbol text))
+      (λ ended. rw (eqb-true byte 61 equals, is_nil text ended) (pairs_are_symbols first is).1) h
+  | inr other ↦ nothing _ token_kind (rw other at h)
+]
 
 half_gives : (first : ℕ) (text : List ℕ) (token_kind : TokenKind) → is_doubled first ≡ true
     → kind_from (state.Half first) text ≡ Some token_kind → Shape token_kind (first ∷ text)
 half_gives first [] token_kind is h = nothing _ token_kind h
 half_gives first (byte ∷ text) token_kind is h = elim (cases_Bool (byte == first)) [
-    inl same ↦ settle _ kind.Symbol token_kind (length text == 0) _ (rw same (from_whole kind.Symbol text))
-        (λ ended. rw (eqb-true byte first same, is_nil text ended) (doubled_is_symbol first is)) h
-    | inr other ↦ nothing _ token_kind (rw other at h) ]
+  | inl same ↦ settle _ kind.Symbol token_kind (length text == 0) _ (rw same (from_whole kind.Symbol text))
+      (λ ended. rw (eqb-true byte first same, is_nil text ended) (doubled_is_symbol first is)) h
+  | inr other ↦ nothing _ token_kind (rw other at h)
+]
 
 symbol_gives : (byte : ℕ) (text : List ℕ) (token_kind : TokenKind)
     → with_next (symbol_of byte) None (λ next. kind_from next text) ≡ Some token_kind → Shape token_kind (byte ∷ text)
 symbol_gives byte text token_kind h = elim (cases_Bool (is_lone byte)) [
-    inl lone ↦ settle _ kind.Symbol token_kind (length text == 0) _ (rw lone (from_whole kind.Symbol text))
-        (λ ended. rw (is_nil text ended) (lone_is_symbol byte lone)) h
-    | inr more ↦ elim (cases_Bool (is_comparison byte)) [
-        inl comparison ↦ comparison_gives byte text token_kind comparison (rw (more, comparison) at h)
-        | inr other ↦ elim (cases_Bool (is_doubled byte)) [
-            inl doubled ↦ half_gives byte text token_kind doubled (rw (more, other, doubled) at h)
-            | inr none ↦ nothing _ token_kind (rw (more, other, none) at h) ] ] ]
+  | inl lone ↦ settle _ kind.Symbol token_kind (length text == 0) _ (rw lone (from_whole kind.Symbol text))
+      (λ ended. rw (is_nil text ended) (lone_is_symbol byte lone)) h
+  | inr more ↦ elim (cases_Bool (is_comparison byte)) [
+    | inl comparison ↦ comparison_gives byte text token_kind comparison (rw (more, comparison) at h)
+    | inr other ↦ elim (cases_Bool (is_doubled byte)) [
+      | inl doubled ↦ half_gives byte text token_kind doubled (rw (more, other, doubled) at h)
+      | inr none ↦ nothing _ token_kind (rw (more, other, none) at h)
+    ]
+  ]
+]
 
 pub first_of_digit : (byte : ℕ) → (byte == 114) ≡ false → is_name_start byte ≡ false → is_digit byte ≡ true → first_of byte ≡ leading_digit_of (2 ^ 63 - 1) byte
 first_of_digit byte no_letter no_name digit = rw (no_letter, no_name, digit) refl
@@ -168,33 +177,41 @@ first_of_digit byte no_letter no_name digit = rw (no_letter, no_name, digit) ref
 pub scan_gives : (text : List ℕ) (token_kind : TokenKind) → kind_from state.Start text ≡ Some token_kind → Shape token_kind text
 scan_gives [] token_kind h = nothing [] token_kind h
 scan_gives (byte ∷ text) token_kind h = elim (cases_Bool (byte == 114)) [
-    inl letter ↦ rw (eqb-true byte 114 letter) (letter_gives text token_kind (rw letter at h))
-    | inr no_letter ↦ elim (cases_Bool (is_name_start byte)) [
-        inl start ↦ settle _ kind.Name token_kind (is_rest text) (kind_from state.Part text) (in_name text).part
-            (λ rest. rw (name_is byte text, start) rest) (rw (no_letter, start) at h)
-        | inr no_name ↦ elim (cases_Bool (is_digit byte)) [
-            inl digit ↦ leading_gives byte text token_kind digit
-                (ap (λ (read : Option State). with_next read None (λ next. kind_from next text)) (sym (first_of_digit byte no_letter no_name digit)) ∙ h)
-            | inr no_digit ↦ elim (cases_Bool (byte == 45)) [
-                inl minus ↦ rw (eqb-true byte 45 minus) (minus_gives text token_kind (rw (no_letter, no_name, no_digit, minus) at h))
-                | inr no_minus ↦ elim (cases_Bool (byte == 34)) [
-                    inl quote ↦ settle _ kind.Text token_kind (is_some (quoted_of false text)) (kind_from state.Quoted text) (in_text text).quoted
-                        (λ quoted. rw quote quoted) (rw (no_letter, no_name, no_digit, no_minus, quote) at h)
-                    | inr no_quote ↦ elim (cases_Bool (byte == 36)) [
-                        inl dollar ↦ rw (eqb-true byte 36 dollar) (dollar_gives text token_kind (rw (no_letter, no_name, no_digit, no_minus, no_quote, dollar) at h))
-                        | inr no_dollar ↦ symbol_gives byte text token_kind (rw (no_letter, no_name, no_digit, no_minus, no_quote, no_dollar) at h) ] ] ] ] ] ]
+  | inl letter ↦ rw (eqb-true byte 114 letter) (letter_gives text token_kind (rw letter at h))
+  | inr no_letter ↦ elim (cases_Bool (is_name_start byte)) [
+    | inl start ↦ settle _ kind.Name token_kind (is_rest text) (kind_from state.Part text) (in_name text).part
+        (λ rest. rw (name_is byte text, start) rest) (rw (no_letter, start) at h)
+    | inr no_name ↦ elim (cases_Bool (is_digit byte)) [
+      | inl digit ↦ leading_gives byte text token_kind digit
+          (ap (λ (read : Option State). with_next read None (λ next. kind_from next text)) (sym (first_of_digit byte no_letter no_name digit)) ∙ h)
+      | inr no_digit ↦ elim (cases_Bool (byte == 45)) [
+        | inl minus ↦ rw (eqb-true byte 45 minus) (minus_gives text token_kind (rw (no_letter, no_name, no_digit, minus) at h))
+        | inr no_minus ↦ elim (cases_Bool (byte == 34)) [
+          | inl quote ↦ settle _ kind.Text token_kind (is_some (quoted_of false text)) (kind_from state.Quoted text) (in_text text).quoted
+              (λ quoted. rw quote quoted) (rw (no_letter, no_name, no_digit, no_minus, quote) at h)
+          | inr no_quote ↦ elim (cases_Bool (byte == 36)) [
+            | inl dollar ↦ rw (eqb-true byte 36 dollar) (dollar_gives text token_kind (rw (no_letter, no_name, no_digit, no_minus, no_quote, dollar) at h))
+            | inr no_dollar ↦ symbol_gives byte text token_kind (rw (no_letter, no_name, no_digit, no_minus, no_quote, no_dollar) at h)
+          ]
+        ]
+      ]
+    ]
+  ]
+]
 
 -- ---- each token is read
 
 rest_has_no_mark : (byte : ℕ) (text : List ℕ) → is_rest (byte ∷ text) ≡ true → (byte == 35) ≡ false
 rest_has_no_mark byte text rest = elim (cases_Bool (byte == 35)) [
-    inl mark ↦ let bad : false ≡ true = rw (eqb-true byte 35 mark) at (sym (rest_is byte text) ∙ rest) in absurd (cc)
-    | inr other ↦ other ]
+  | inl mark ↦ let bad : false ≡ true = rw (eqb-true byte 35 mark) at (sym (rest_is byte text) ∙ rest) in absurd (cc)
+  | inr other ↦ other
+]
 
 rest_has_no_quote : (byte : ℕ) (text : List ℕ) → is_rest (byte ∷ text) ≡ true → (byte == 34) ≡ false
 rest_has_no_quote byte text rest = elim (cases_Bool (byte == 34)) [
-    inl quote ↦ let bad : false ≡ true = rw (eqb-true byte 34 quote) at (sym (rest_is byte text) ∙ rest) in absurd (cc)
-    | inr other ↦ other ]
+  | inl quote ↦ let bad : false ≡ true = rw (eqb-true byte 34 quote) at (sym (rest_is byte text) ∙ rest) in absurd (cc)
+  | inr other ↦ other
+]
 
 leading_counts : (most byte : ℕ) → (byte == 48) ≡ false → leading_digit_of most byte ≡ counting_of most byte
 leading_counts most byte other = rw other refl
@@ -211,8 +228,9 @@ takes_name : (text : List ℕ) → is_name text ≡ true → kind_from state.Sta
 takes_name [] h = absurd (cc)
 takes_name (byte ∷ text) h = let both : (is_name_start byte ≡ true) × (is_rest text ≡ true) = and_parts _ _ (sym (name_is byte text) ∙ h) in
     elim (cases_Bool (byte == 114)) [
-        inl letter ↦ rw letter (letter_takes_name text both.1)
-        | inr other ↦ rw (other, both.0) ((in_name text).part ∙ rw both.1 refl) ]
+      | inl letter ↦ rw letter (letter_takes_name text both.1)
+      | inr other ↦ rw (other, both.0) ((in_name text).part ∙ rw both.1 refl)
+    ]
 
 is_lone_zero : (byte : ℕ) (text : List ℕ) → bytes_eq (byte ∷ text) (codes "0") ≡ true → kind_from state.Start (byte ∷ text) ≡ Some kind.Number
 is_lone_zero byte text h = let P : List ℕ → Type 0 = λ t. kind_from state.Start t ≡ Some kind.Number in
@@ -236,23 +254,26 @@ takes_counted byte text h =
     let first : (nat_le 49 byte && nat_le byte 57) ≡ true = (and_parts _ _ counted.0).0 in
     let digit : is_digit byte ≡ true = counted_is_digit byte first in
     ap (λ (read : Option State). with_next read None (λ next. kind_from next text))
-        (first_of_digit byte (digit_is_no_letter byte digit) (digit_starts_no_name byte digit) digit ∙ leading_counts (2 ^ 63 - 1) byte (counted_is_not_zero byte first))
+    (first_of_digit byte (digit_is_no_letter byte digit) (digit_starts_no_name byte digit) digit ∙ leading_counts (2 ^ 63 - 1) byte (counted_is_not_zero byte first))
     ∙ from_counting (2 ^ 63 - 1) byte text (omega arith) ∙ rw h refl
 
 takes_number : (text : List ℕ) → IsSome (number_of text) → kind_from state.Start text ≡ Some kind.Number
 takes_number [] h = absurd (cc)
 takes_number (byte ∷ text) h = elim (cases_Bool (bytes_eq (byte ∷ text) (codes "0"))) [
-    inl lone ↦ is_lone_zero byte text lone
-    | inr other ↦ elim (cases_Bool (byte == 45)) [
-        inl minus ↦ rw (eqb-true byte 45 minus) (from_minus text ∙ takes_more (size_of (2 ^ 63) text)
-            (sym (is_some-map (λ (n : ℕ). neg_ℤ (pos n)) (size_of (2 ^ 63) text)) ∙ rw (other, minus) at h))
-        | inr plain ↦ takes_counted byte text (sym (is_some-map pos (size_of (2 ^ 63 - 1) (byte ∷ text))) ∙ rw (other, plain) at h) ] ]
+  | inl lone ↦ is_lone_zero byte text lone
+  | inr other ↦ elim (cases_Bool (byte == 45)) [
+    | inl minus ↦ rw (eqb-true byte 45 minus) (from_minus text ∙ takes_more (size_of (2 ^ 63) text)
+        (sym (is_some-map (λ (n : ℕ). neg_ℤ (pos n)) (size_of (2 ^ 63) text)) ∙ rw (other, minus) at h))
+    | inr plain ↦ takes_counted byte text (sym (is_some-map pos (size_of (2 ^ 63 - 1) (byte ∷ text))) ∙ rw (other, plain) at h)
+  ]
+]
 
 takes_text : (text : List ℕ) → IsSome (text_of text) → kind_from state.Start text ≡ Some kind.Text
 takes_text [] h = absurd (cc)
 takes_text (byte ∷ text) h = elim (cases_Bool (byte == 34)) [
-    inl quote ↦ rw (eqb-true byte 34 quote) ((in_text text).quoted ∙ rw (rw quote at h) refl)
-    | inr other ↦ let none : false ≡ true = rw other at h in absurd (cc) ]
+  | inl quote ↦ rw (eqb-true byte 34 quote) ((in_text text).quoted ∙ rw (rw quote at h) refl)
+  | inr other ↦ let none : false ≡ true = rw other at h in absurd (cc)
+]
 
 marks_take : (text : List ℕ) → is_raw_behind 0 text ≡ true → kind_from (state.Marks 0) text ≡ Some kind.RawText
 marks_take text h = from_marks 0 text (omega arith) ∙ ap (λ (test : Bool). kind_where test kind.RawText) h
@@ -260,22 +281,26 @@ marks_take text h = from_marks 0 text (omega arith) ∙ ap (λ (test : Bool). ki
 letter_takes_raw : (text : List ℕ) → is_raw_behind 0 text ≡ true → kind_from state.Letter text ≡ Some kind.RawText
 letter_takes_raw [] h = absurd (cc)
 letter_takes_raw (byte ∷ text) h = elim (cases_Bool (byte == 35)) [
-    inl mark ↦ rw mark (rw (mark, mark_is_no_quote byte mark) at (marks_take (byte ∷ text) h))
-    | inr other ↦ elim (cases_Bool (byte == 34)) [
-        inl quote ↦ rw (other, quote) (rw (other, quote) at (marks_take (byte ∷ text) h))
-        | inr none ↦ let bad : false ≡ true = rw (other, none) at h in absurd (cc) ] ]
+  | inl mark ↦ rw mark (rw (mark, mark_is_no_quote byte mark) at (marks_take (byte ∷ text) h))
+  | inr other ↦ elim (cases_Bool (byte == 34)) [
+    | inl quote ↦ rw (other, quote) (rw (other, quote) at (marks_take (byte ∷ text) h))
+    | inr none ↦ let bad : false ≡ true = rw (other, none) at h in absurd (cc)
+  ]
+]
 
 takes_raw : (text : List ℕ) → IsSome (raw_text_of text) → kind_from state.Start text ≡ Some kind.RawText
 takes_raw [] h = absurd (cc)
 takes_raw (byte ∷ text) h = elim (cases_Bool (byte == 114)) [
-    inl letter ↦ rw letter (letter_takes_raw text (sym (raw_is text) ∙ rw (eqb-true byte 114 letter) at h))
-    | inr other ↦ let none : false ≡ true = rw other at h in absurd (cc) ]
+  | inl letter ↦ rw letter (letter_takes_raw text (sym (raw_is text) ∙ rw (eqb-true byte 114 letter) at h))
+  | inr other ↦ let none : false ≡ true = rw other at h in absurd (cc)
+]
 
 takes_list_name : (text : List ℕ) → IsSome (list_name_of text) → kind_from state.Start text ≡ Some kind.ListName
 takes_list_name [] h = absurd (cc)
 takes_list_name (byte ∷ text) h = elim (cases_Bool (byte == 36)) [
-    inl dollar ↦ rw (eqb-true byte 36 dollar) (from_dollar text ∙ rw (sym (is_some-cond _ text) ∙ rw dollar at h) refl)
-    | inr other ↦ let none : false ≡ true = rw other at h in absurd (cc) ]
+  | inl dollar ↦ rw (eqb-true byte 36 dollar) (from_dollar text ∙ rw (sym (is_some-cond _ text) ∙ rw dollar at h) refl)
+  | inr other ↦ let none : false ≡ true = rw other at h in absurd (cc)
+]
 
 abbrev pub EveryOne : (List ℕ → Type 0) → List (List ℕ) → Type 0
 EveryOne P [] = Unit {0}
@@ -285,8 +310,9 @@ EveryOne P (word ∷ words) = P word × EveryOne P words
 pub one_of : (P : List ℕ → Type 0) (text : List ℕ) (words : List (List ℕ)) → list_any (bytes_eq text) words ≡ true → EveryOne P words → P text
 one_of P text [] h each = absurd (cc)
 one_of P text (word ∷ words) h each = elim (or_cases _ _ h) [
-    inl same ↦ subst P (sym ((bytes_eq-Decides text word).0 same)) each.0
-    | inr later ↦ one_of P text words later each.1 ]
+  | inl same ↦ subst P (sym ((bytes_eq-Decides text word).0 same)) each.0
+  | inr later ↦ one_of P text words later each.1
+]
 
 takes_symbol : (text : List ℕ) → is_symbol text ≡ true → kind_from state.Start text ≡ Some kind.Symbol
 takes_symbol text h = one_of (λ (t : List ℕ). kind_from state.Start t ≡ Some kind.Symbol) text symbols h

@@ -1,5 +1,5 @@
 -- The longest token other than an address or a block, read byte by byte.
-use Rattle.std.specs.Prelude.{◌≡◌, ℕ, ◌+◌, ◌-◌, ◌*◌, ◌^◌, ◌≤◌, Bool, true, false, cond, not, ◌&&◌, ◌||◌, nat_lt, nat_le, ◌==◌, List, [], ◌∷◌, length, take, Option, Some, None, IsTrue}
+use Rattle.std.specs.Prelude.{ℕ, ◌+◌, ◌-◌, ◌*◌, ◌^◌, Bool, cond, not, ◌&&◌, ◌||◌, nat_lt, nat_le, ◌==◌, List, [], ◌∷◌, take, Option, Some, None}
 use Rattle.std.specs.List.{position_or_len}
 use Rattle.edge_base.specs.declared.token.TokenKind.{TokenKind}
 use Rattle.edge_base.specs.declared.token.TokenKind.TheVariants as kind
@@ -21,7 +21,7 @@ stretch_of text = position_or_len is_other_byte (take 45 text)
 abbrev pub digit_of : ℕ → ℕ → ℕ → Option State
 digit_of most size byte =
     cond (is_digit byte)
-        (cond (nat_le (size * 10 + (byte - 48)) most) (Some (state.Digits most (size * 10 + (byte - 48)))) None) None
+    (cond (nat_le (size * 10 + (byte - 48)) most) (Some (state.Digits most (size * 10 + (byte - 48)))) None) None
 
 abbrev pub counting_of : ℕ → ℕ → Option State
 counting_of most byte = cond (byte == 48) None (digit_of most 0 byte)
@@ -41,16 +41,16 @@ is_comparison byte = byte == 33 || byte == 60 || byte == 62
 abbrev pub symbol_of : ℕ → Option State
 symbol_of byte =
     cond (is_lone byte) (Some (state.Whole kind.Symbol))
-        (cond (is_comparison byte) (Some state.Comparison) (cond (is_doubled byte) (Some (state.Half byte)) None))
+    (cond (is_comparison byte) (Some state.Comparison) (cond (is_doubled byte) (Some (state.Half byte)) None))
 
 abbrev pub first_of : ℕ → Option State
 first_of byte =
     cond (byte == 114) (Some state.Letter)
-        (cond (is_name_start byte) (Some state.Part)
-            (cond (is_digit byte) (leading_digit_of (2 ^ 63 - 1) byte)
-                (cond (byte == 45) (Some state.Minus)
-                    (cond (byte == 34) (Some state.Quoted)
-                        (cond (byte == 36) (Some state.Dollar) (symbol_of byte))))))
+    (cond (is_name_start byte) (Some state.Part)
+    (cond (is_digit byte) (leading_digit_of (2 ^ 63 - 1) byte)
+    (cond (byte == 45) (Some state.Minus)
+    (cond (byte == 34) (Some state.Quoted)
+    (cond (byte == 36) (Some state.Dollar) (symbol_of byte))))))
 
 abbrev pub part_of : ℕ → Option State
 part_of byte = cond (byte == 46) (Some state.Dot) (cond (is_name_byte byte) (Some state.Part) None)

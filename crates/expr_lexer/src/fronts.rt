@@ -22,7 +22,10 @@ const MOST_ADDRESS: usize = 45;
 pub fn longest_token(text: &[u8]) -> Option<Front>
     ensures { MatchOption result (HasNoToken text.now) (λ front. IsLongest text.now front.size front.kind) }
 {
-    longer(longer(longest_scanned(text), longest_address(text)), longest_block(text))
+    longer(
+        longer(longest_scanned(text), longest_address(text)),
+        longest_block(text),
+    )
 }
 
 fn longer(one: Option<Front>, other: Option<Front>) -> Option<Front>
@@ -43,7 +46,10 @@ fn longest_scanned(text: &[u8]) -> Option<Front>
         return None;
     };
     let kind = kind_of_name(front.kind, &text[..front.size]);
-    Some(Front { size: front.size, kind })
+    Some(Front {
+        size: front.size,
+        kind,
+    })
 }
 
 /// The kind of a token that was read, which may be a reserved word.
@@ -68,7 +74,10 @@ fn longest_from(start: State, text: &[u8]) -> Option<Front>
         };
         state = next;
         if let Some(kind) = next.kind() {
-            best = Some(Front { size: index + 1, kind });
+            best = Some(Front {
+                size: index + 1,
+                kind,
+            });
         }
     }
     best
@@ -95,7 +104,10 @@ fn longest_address(text: &[u8]) -> Option<Front>
     let mut size = address_stretch(text);
     while 0 < size {
         if parse_addr(&text[..size]).is_some() {
-            return Some(Front { size, kind: TokenKind::Address });
+            return Some(Front {
+                size,
+                kind: TokenKind::Address,
+            });
         }
         size -= 1;
     }
@@ -112,7 +124,10 @@ fn longest_block(text: &[u8]) -> Option<Front>
     let Some(bits) = longest_from(State::Bits, &text[size + 1..]) else {
         return None;
     };
-    Some(Front { size: size + 1 + bits.size, kind: TokenKind::Block })
+    Some(Front {
+        size: size + 1 + bits.size,
+        kind: TokenKind::Block,
+    })
 }
 
 /// Whether a token of this kind may be followed directly by the rest of a text.

@@ -64,7 +64,9 @@ impl State {
             State::Dot if is_name_start(byte) => Some(State::Part),
             State::Minus => counting(MOST_NEGATIVE, byte),
             State::Digits { most, size } => digit(most, size, byte),
-            State::Quoted if byte == b'"' => Some(State::Whole { kind: TokenKind::Text }),
+            State::Quoted if byte == b'"' => Some(State::Whole {
+                kind: TokenKind::Text,
+            }),
             State::Quoted if byte == b'\\' => Some(State::Escaped),
             State::Quoted => Some(State::Quoted),
             State::Escaped if byte == b'"' || byte == b'\\' => Some(State::Quoted),
@@ -72,8 +74,12 @@ impl State {
             State::Raw { marks } => Some(raw(marks, byte)),
             State::Closing { marks, left } => Some(closing(marks, left, byte)),
             State::Dollar | State::ListName if is_name_byte(byte) => Some(State::ListName),
-            State::Comparison if byte == b'=' => Some(State::Whole { kind: TokenKind::Symbol }),
-            State::Half { first } if byte == first => Some(State::Whole { kind: TokenKind::Symbol }),
+            State::Comparison if byte == b'=' => Some(State::Whole {
+                kind: TokenKind::Symbol,
+            }),
+            State::Half { first } if byte == first => Some(State::Whole {
+                kind: TokenKind::Symbol,
+            }),
             _ => None,
         }
     }
@@ -119,7 +125,9 @@ fn symbol(byte: u8) -> Option<State>
 {
     match byte {
         b'(' | b')' | b'[' | b']' | b'{' | b'}' | b',' | b'*' | b'~' => {
-            Some(State::Whole { kind: TokenKind::Symbol })
+            Some(State::Whole {
+                kind: TokenKind::Symbol,
+            })
         }
         b'!' | b'<' | b'>' => Some(State::Comparison),
         b'.' | b'&' | b'^' | b'|' | b'=' => Some(State::Half { first: byte }),
@@ -132,7 +140,9 @@ fn leading_digit(most: u64, byte: u8) -> Option<State>
     ensures { result ≡ leading_digit_of most byte }
 {
     if byte == b'0' {
-        Some(State::Whole { kind: TokenKind::Number })
+        Some(State::Whole {
+            kind: TokenKind::Number,
+        })
     } else {
         counting(most, byte)
     }
@@ -142,7 +152,11 @@ fn leading_digit(most: u64, byte: u8) -> Option<State>
 fn counting(most: u64, byte: u8) -> Option<State>
     ensures { result ≡ counting_of most byte }
 {
-    if byte == b'0' { None } else { digit(most, 0, byte) }
+    if byte == b'0' {
+        None
+    } else {
+        digit(most, 0, byte)
+    }
 }
 
 fn digit(most: u64, size: u64, byte: u8) -> Option<State>
@@ -153,7 +167,10 @@ fn digit(most: u64, size: u64, byte: u8) -> Option<State>
     }
     let size = u128::from(size) * 10 + u128::from(byte - b'0');
     if size <= u128::from(most) {
-        Some(State::Digits { most, size: size as u64 })
+        Some(State::Digits {
+            most,
+            size: size as u64,
+        })
     } else {
         None
     }
@@ -189,7 +206,9 @@ fn raw(marks: u8, byte: u8) -> State
     if byte != b'"' {
         State::Raw { marks }
     } else if marks == 0 {
-        State::Whole { kind: TokenKind::RawText }
+        State::Whole {
+            kind: TokenKind::RawText,
+        }
     } else {
         State::Closing { marks, left: marks }
     }
@@ -201,8 +220,13 @@ fn closing(marks: u8, left: u8, byte: u8) -> State
     if byte != b'#' {
         raw(marks, byte)
     } else if left <= 1 {
-        State::Whole { kind: TokenKind::RawText }
+        State::Whole {
+            kind: TokenKind::RawText,
+        }
     } else {
-        State::Closing { marks, left: left - 1 }
+        State::Closing {
+            marks,
+            left: left - 1,
+        }
     }
 }

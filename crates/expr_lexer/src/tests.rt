@@ -181,7 +181,10 @@ fn is_refused_at(alloc: Global, text: &[u8], at: u32) -> bool {
 #[test]
 fn texts_are_cut_as_marked(rt: HostRuntime) {
     for (text, marks) in CUTS {
-        assert!(rt; is_cut_as(rt.alloc(), text.as_bytes(), marks.as_bytes()), "{text}");
+        assert!(rt;
+            is_cut_as(rt.alloc(), text.as_bytes(), marks.as_bytes()),
+            "{text}"
+        );
     }
 }
 

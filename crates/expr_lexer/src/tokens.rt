@@ -62,7 +62,11 @@ fn token_at(text: &[u8], at: usize) -> Option<Token>
         return None;
     };
     if may_stand_before(front.kind, &rest[front.size..]) {
-        Some(Token { kind: front.kind, start: at as u32, end: (at + front.size) as u32 })
+        Some(Token {
+            kind: front.kind,
+            start: at as u32,
+            end: (at + front.size) as u32,
+        })
     } else {
         None
     }
@@ -71,11 +75,9 @@ fn token_at(text: &[u8], at: usize) -> Option<Token>
 /// A text has at most one cut.
 pub fn cuts_are_unique()
     ensures { CutsAreUnique }
-{
-}
+{}
 
 /// A text with a place of fault has no other, and no cut.
 pub fn faults_are_unique()
     ensures { FaultsAreUnique }
-{
-}
+{}

@@ -1,7 +1,6 @@
-use Rattle.std.proofs.Common.{◌≡◌, List, ℕ, length, take, unwrap_or, sym, ◌∙◌, ap, min}
+use Rattle.std.proofs.Common.{take}
 use Rattle.std.proofs.lemmas.List.{take_min}
-use Rattle.std.specs.List.{position, position_or_len}
-use Rattle.expr_lexer.specs.Scan.{is_other_byte, stretch_of}
+use Rattle.expr_lexer.specs.Scan.{is_other_byte}
 use Rattle.expr_lexer.proofs.BlockLemmas.{place_or_length}
 use Rattle.expr_lexer.proofs.fronts.address_stretch.Goals as goal
 
