@@ -1,2 +1,4 @@
 pub mod Address
+pub mod Cut
 pub mod Printed
+pub mod Token
