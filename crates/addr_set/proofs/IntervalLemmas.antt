@@ -1,19 +1,19 @@
 -- Sorted intervals, as they are merged and searched.
 use Rattle.std.proofs.Common.{◌≡◌, ℕ, suc, ◌+◌, ◌-◌, ◌*◌, ◌/◌, ◌^◌, ◌<◌, ◌≤◌, Bool, true, false, ◌||◌, ◌&&◌, leb, max, List, [], ◌∷◌, ◌++◌, length, get_or, refl, sym, ap, ◌∙◌, subst, inl, inr, arith, length-append}
 use Rattle.std.specs.List.{All, AllWithin, list_any}
-use Rattle.std.proofs.Common.{le-leb}
-use Rattle.std.proofs.lemmas.Bool.{cases_lt, lt-leb, and_from}
+use Rattle.std.proofs.Common.{add-mul, le-leb, eqb, eq-eqb, ne_eqb}
+use Rattle.std.proofs.lemmas.Bool.{cases_lt, cases_eq, lt-leb, and_from, and_left, and_right}
 use Rattle.std.proofs.lemmas.Bool.Decides.{nat_tests}
 use Rattle.std.proofs.lemmas.Grind.{common_steps}
 use Rattle.std.proofs.lemmas.List.{get_or_append_left, get_or_default}
 use Rattle.std.proofs.lemmas.List.Elements.{All-push}
 use Rattle.std.proofs.lemmas.List.Folds.{list_any-append, list_any_none, list_any_at}
 use Rattle.std.proofs.lemmas.List.Quantifiers.{all_pairs_push}
-use Rattle.std.proofs.Math.Nat.{mul_comm}
+use Rattle.std.proofs.Math.Nat.{mul_comm, div-mul-le_self, lt-div-mul-add, div-eq_of_lt-le}
 use Rattle.std.proofs.Math.Pow.{shr_lt}
 use Rattle.std.proofs.lemmas.Nat.{mul-add-lt, pow-add, pow_pos}
 use Rattle.addr_set.specs.declared.intervals.Interval.{Interval}
-use Rattle.addr_set.specs.Intervals.{is_in, is_in_any, AreApart}
+use Rattle.addr_set.specs.Intervals.{is_in, is_in_any, block_of, AreApart}
 
 abbrev Before : Interval → Interval → Type 0
 Before one later = (one.first ≤ later.first) × (one.last < later.first)
@@ -67,7 +67,7 @@ AreApart-more front last next apart begins gap =
               rw (here, get_or_end front last d) (omega arith)
         ]
 
-is_in_any-push : (front : List Interval) (next : Interval) (number : ℕ) → is_in_any (front ++ next ∷ []) number ≡ (is_in_any front number || is_in next number)
+pub is_in_any-push : (front : List Interval) (next : Interval) (number : ℕ) → is_in_any (front ++ next ∷ []) number ≡ (is_in_any front number || is_in next number)
 is_in_any-push front next number =
     let one = list_any-append (λ (x : Interval). is_in x number) front (next ∷ []) in
     grind (arith, common_steps)
@@ -148,3 +148,27 @@ block_fits number last_bits small fits =
     let size = pow_pos last_bits in
     let below = mul-add-lt (number / 2 ^ last_bits) (2 ^ last_bits) (2 ^ last_bits - 1) (2 ^ top) front (omega arith) in
     rw (mul_comm (2 ^ last_bits) (2 ^ top), ← pow-add 2 top last_bits, all) at below
+
+-- a number is in a block where its first bits are the same
+pub is_in-block_of : (last_bits one number : ℕ) → is_in (block_of last_bits one) number ≡ eqb (number / 2 ^ last_bits) (one / 2 ^ last_bits)
+is_in-block_of last_bits one number =
+    let size = 2 ^ last_bits in
+    let some : 0 < size = pow_pos last_bits in
+    let q = one / size in
+    let low : number / size * size ≤ number = div-mul-le_self number size in
+    let high : number < number / size * size + size = lt-div-mul-add some in
+    elim (cases_eq (number / size) q) [
+      | inl same ↦
+          let at_least : q * size ≤ number = rw same at low in
+          let at_most : number < q * size + size = rw same at high in
+          and_from _ _ (le-leb _ _ at_least) (le-leb _ _ (omega arith)) ∙ sym (eq-eqb _ _ same)
+      | inr other ↦
+          elim (cases_lt number (q * size)) [
+            | inl under ↦ and_left _ _ (lt-leb _ _ under) ∙ sym (ne_eqb _ _ other)
+            | inr from ↦
+                elim (cases_lt (q * size + (size - 1)) number) [
+                  | inl over ↦ and_right _ _ (lt-leb _ _ over) ∙ sym (ne_eqb _ _ other)
+                  | inr upto ↦ absurd (other (div-eq_of_lt-le size from (rw add-mul (omega arith))))
+                ]
+          ]
+    ]

@@ -3,6 +3,7 @@
 #![tactic(auto)]
 
 mod intervals;
+mod set;
+mod spans;
 
-
-
+pub use set::AddrSet;
