@@ -3,7 +3,9 @@
 #![tactic(auto)]
 
 mod intervals;
+mod reading;
 mod set;
 mod spans;
 
+pub use reading::{ItemFault, parse_items};
 pub use set::AddrSet;

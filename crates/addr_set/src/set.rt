@@ -66,3 +66,6 @@ impl AddrSet {
         }
     }
 }
+
+#[cfg(test)]
+mod tests;

@@ -46,13 +46,13 @@ IsAddrText-ipv6 text a h =
     let items = eight_items g (length-groups text g h) in
     (g, h, subst (λ x. from_be_bytes w128 (octets_of x) ≡ number_of 65536 x) (sym items) (number_of-eight (get_or g 0 0) (get_or g 1 0) (get_or g 2 0) (get_or g 3 0) (get_or g 4 0) (get_or g 5 0) (get_or g 6 0) (get_or g 7 0)))
 
-pub unique : AddressIsUnique
-unique text (addr.V4 m) (addr.V4 n) h k =
+pub IsAddrText-unique : AddressIsUnique
+IsAddrText-unique text (addr.V4 m) (addr.V4 n) h k =
     let same = IsIpv4Text_unique text (record { octets = h.0 }) (record { octets = k.0 }) h.1 k.1 in
     ap addr.V4 (h.2 ∙ ap (λ a. number_of 256 (ipv4_octets a)) same ∙ sym k.2)
-unique text (addr.V4 m) (addr.V6 n) h k = absurd (IsDotted-not_colon_hex text h.0 k.0 h.1 k.1)
-unique text (addr.V6 m) (addr.V4 n) h k = absurd (IsDotted-not_colon_hex text k.0 h.0 k.1 h.1)
-unique text (addr.V6 m) (addr.V6 n) h k =
+IsAddrText-unique text (addr.V4 m) (addr.V6 n) h k = absurd (IsDotted-not_colon_hex text h.0 k.0 h.1 k.1)
+IsAddrText-unique text (addr.V6 m) (addr.V4 n) h k = absurd (IsDotted-not_colon_hex text k.0 h.0 k.1 h.1)
+IsAddrText-unique text (addr.V6 m) (addr.V6 n) h k =
     let same = IsIpv6Text_unique text (record { segments = h.0 }) (record { segments = k.0 }) h.1 k.1 in
     ap addr.V6 (h.2 ∙ ap (λ a. number_of 65536 (ipv6_segments a)) same ∙ sym k.2)
 
