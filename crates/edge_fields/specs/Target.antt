@@ -1,0 +1,47 @@
+-- What a target stands for: its uri, and the path and the query of the uri.
+use Rattle.std.specs.Prelude.{ℕ, ◌==◌, Bool, ◌||◌, List, [], ◌∷◌, ◌++◌, Option, None, Some, length, take, drop, codes, if◌then◌else◌}
+use Rattle.std.specs.List.{position_or_len, before_first, after_first}
+use Rattle.std.specs.Option.{option_or, option_map_or}
+use Rattle.std.specs.Str.{str_eq_ignore_ascii_case}
+
+-- the byte `?`
+abbrev pub is_question : ℕ → Bool
+is_question byte = byte == 63
+
+-- `/` or `?`, at which an authority ends
+abbrev pub ends_authority : ℕ → Bool
+ends_authority byte = byte == 47 || byte == 63
+
+-- what follows the front of a text, where the text begins with that front, ASCII case ignored
+abbrev pub after_front : List ℕ → List ℕ → Option (List ℕ)
+after_front front text =
+    if str_eq_ignore_ascii_case (take (length front) text) front then Some (drop (length front) text) else None
+
+-- what follows the scheme of a target in absolute form
+abbrev pub after_scheme : List ℕ → Option (List ℕ)
+after_scheme target = option_or (after_front (codes "http://") target) (after_front (codes "https://") target)
+
+-- what follows an authority
+abbrev pub after_authority : List ℕ → List ℕ
+after_authority text = drop (position_or_len ends_authority text) text
+
+-- `/` where a text doesn't begin with it, else nothing
+abbrev pub root_of : List ℕ → List ℕ
+root_of [] = codes "/"
+root_of (byte ∷ text) = if byte == 47 then [] else codes "/"
+
+-- a text with `/` in front if it doesn't begin with one
+abbrev pub rooted : List ℕ → List ℕ
+rooted text = root_of text ++ text
+
+-- the uri: the target or, of a target in absolute form, what follows the authority, with `/` in front
+abbrev pub uri_of : List ℕ → List ℕ
+uri_of target = option_map_or (λ rest. rooted (after_authority rest)) (after_scheme target) target
+
+-- the path: the uri up to its first `?`
+abbrev pub path_of : List ℕ → List ℕ
+path_of target = before_first is_question (uri_of target)
+
+-- the query: what follows the first `?` of the uri, or nothing
+abbrev pub query_of : List ℕ → List ℕ
+query_of target = after_first is_question (uri_of target)
