@@ -3,6 +3,7 @@ use Rattle.std.proofs.Common.{◌≡◌, ◌≢◌, ℕ, zero, suc, ◌+◌, ◌
 use Rattle.std.proofs.lemmas.Bool.{cases_lt}
 use Rattle.std.proofs.lemmas.List.{get_or_append_left, get_or-append_right, get_or_past}
 use Rattle.std.proofs.Math.Seq.{drop-cons}
+use Rattle.std.specs.Str.Parse.{digits_value}
 use Rattle.memchr.specs.Find.{IsFirstByte, FindsNeedle, OccursAt, is_byte}
 use Rattle.edge_base.specs.declared.address.Addr.{Addr}
 use Rattle.edge_base.specs.declared.address.Addr.TheVariants as addr
@@ -10,12 +11,13 @@ use Rattle.edge_base.specs.declared.expression.Lit.TheVariants as lit
 use Rattle.edge_base.specs.declared.expression.Item.{Item}
 use Rattle.edge_base.specs.declared.expression.Item.TheVariants as item
 use Rattle.edge_base.specs.Address.{IsAddrText}
+use Rattle.edge_base.proofs.AddressLemmas.{IsAddrText-unique}
 use Rattle.addr_set.specs.declared.reading.Flaw.{Flaw}
 use Rattle.addr_set.specs.declared.reading.Flaw.TheVariants as flaw
-use Rattle.addr_set.specs.Sets.{IsRange}
-use Rattle.addr_set.specs.ItemTexts.{IsOneFamily, IsBelow, IsRangeText, IsBlockText, IsItemText, IsNoItem}
+use Rattle.addr_set.specs.Sets.{width_of, IsRange, IsAddrItem}
+use Rattle.addr_set.specs.ItemTexts.{IsOneFamily, IsBelow, IsRangeText, IsBlockText, IsItemText, IsNoItem, IsLongPrefix, IsBackward, IsRefused, ItemIsUnique}
 use Rattle.addr_set.specs.Readings.{Reads, ReadsRange, ReadsBlock}
-use Rattle.addr_set.proofs.CleanLemmas.{HasDotsApart, HasDotsApart-append, HasDotsApart-digits, AllDigits-weaker, IsClean-address, no_slash_at, digit_after_dot}
+use Rattle.addr_set.proofs.CleanLemmas.{HasNoSlash, HasDotsApart, HasDotsApart-append, HasDotsApart-digits, AllDigits-weaker, IsClean-address, no_slash_at, digit_after_dot}
 
 abbrev dots : List ℕ
 dots = 46 ∷ 46 ∷ []
@@ -236,3 +238,112 @@ module _ (text : List ℕ) (no_range : FindsNeedle text dots 0 None) where
   IsNoItem-alone no_slash none (item.Block base bits) h =
       let after = slash_of_block text base bits h in
       no_slash (length h.left) (omega arith) after.0 (eq-eqb _ _ after.1)
+
+-- two cuts of one text at one place
+same_cut : (text needle l r m s : List ℕ) → text ≡ l ++ needle ++ r → text ≡ m ++ needle ++ s → length l ≡ length m → (l ≡ m) × (r ≡ s)
+same_cut text needle l r m s e f same = (
+  sym (take_at l (needle ++ r) (length l) refl) ∙ ap (λ t. take (length l) t) (sym (append_assoc l needle r) ∙ sym e ∙ f ∙ append_assoc m needle s) ∙ take_at m (needle ++ s) (length l) (sym same),
+  sym (drop_at (l ++ needle) r (length (l ++ needle)) refl) ∙ ap (λ t. drop (length (l ++ needle)) t) (sym e ∙ f) ∙ drop_at (m ++ needle) s (length (l ++ needle)) (rw (length-append, length-append) (omega arith)),
+)
+
+dots_least : (text l r m s : List ℕ) → text ≡ l ++ dots ++ r → text ≡ m ++ dots ++ s → HasDotsApart m → length m ≤ length l
+dots_least text l r m s e f apart =
+    elim (cases_lt (length l) (length m)) [
+      | inl shorter ↦ absurd (no_dots_in m (dots ++ s) (length l) apart shorter (subst (λ t. OccursAt t dots (length l)) (sym e ∙ f ∙ append_assoc m dots s) (between l dots r)))
+      | inr fine ↦ fine
+    ]
+
+slash_least : (text l r m s : List ℕ) → text ≡ l ++ 47 ∷ [] ++ r → text ≡ m ++ 47 ∷ [] ++ s → HasNoSlash m → length m ≤ length l
+slash_least text l r m s e f none =
+    elim (cases_lt (length l) (length m)) [
+      | inl shorter ↦
+          let slash : OccursAt (m ++ (47 ∷ [] ++ s)) (47 ∷ []) (length l) = subst (λ t. OccursAt t (47 ∷ []) (length l)) (sym e ∙ f ∙ append_assoc m (47 ∷ []) s) (between l (47 ∷ []) r) in
+          let here = sym (get_or_append_left m (47 ∷ [] ++ s) 0 (length l) shorter) ∙ ap (λ i. get_or (m ++ (47 ∷ [] ++ s)) i 0) (sym (add-zero (length l))) ∙ slash.reads 0 (omega arith) in
+          absurd (no_slash_at m (length l) none here)
+      | inr fine ↦ fine
+    ]
+
+range_unique : (text : List ℕ) (a b c d : Addr) → IsRangeText text a b → IsRangeText text c d → (a ≡ c) × (b ≡ d)
+range_unique text a b c d h k =
+    let one = dots_least text h.left h.right k.left k.right h.spelled k.spelled (IsClean-address k.left c k.is_first).1 in
+    let two = dots_least text k.left k.right h.left h.right k.spelled h.spelled (IsClean-address h.left a h.is_first).1 in
+    let same = same_cut text dots h.left h.right k.left k.right h.spelled k.spelled (omega arith) in (
+      IsAddrText-unique k.left a c (subst (λ t. IsAddrText t a) same.0 h.is_first) k.is_first,
+      IsAddrText-unique k.right b d (subst (λ t. IsAddrText t b) same.1 h.is_last) k.is_last,
+    )
+
+block_unique : (text : List ℕ) (a b : Addr) (m n : ℕ) → IsBlockText text a m → IsBlockText text b n → (a ≡ b) × (m ≡ n)
+block_unique text a b m n h k =
+    let one = slash_least text h.left h.digits k.left k.digits h.spelled k.spelled (IsClean-address k.left b k.is_one).0 in
+    let two = slash_least text k.left k.digits h.left h.digits k.spelled h.spelled (IsClean-address h.left a h.is_one).0 in
+    let same = same_cut text (47 ∷ []) h.left h.digits k.left k.digits h.spelled k.spelled (omega arith) in (
+      IsAddrText-unique k.left a b (subst (λ t. IsAddrText t a) same.0 h.is_one) k.is_one,
+      sym h.is_prefix.0.1 ∙ ap (digits_value 10) same.1 ∙ k.is_prefix.0.1,
+    )
+
+no_dots_of_range : (text : List ℕ) (first last : Addr) → IsRangeText text first last → ¬ (HasDotsApart text)
+no_dots_of_range text first last h apart =
+    let occurs : OccursAt text dots (length h.left) = rw h.spelled (between h.left dots h.right) in
+    no_dots text (length h.left) apart occurs
+
+-- how a text that stands for an item is read, whatever the item
+address_is : (text : List ℕ) (a : Addr) (one : Item) → IsAddrText text a → IsItemText text one → item.One (lit.Addr a) ≡ one
+address_is text a (item.One (lit.Text t)) h k = absurd k
+address_is text a (item.One (lit.Num n)) h k = absurd k
+address_is text a (item.One (lit.Bool b)) h k = absurd k
+address_is text a (item.One (lit.Addr b)) h k = ap (λ x. item.One (lit.Addr x)) (IsAddrText-unique text a b h k)
+address_is text a (item.Nums m n) h k = absurd k
+address_is text a (item.Addrs first last) h k = absurd (no_dots_of_range text first last k (IsClean-address text a h).1)
+address_is text a (item.Block base bits) h k = absurd (no_slash_at text (length k.left) (IsClean-address text a h).0 (slash_of_block text base bits k).1)
+
+range_is : (text : List ℕ) (a b : Addr) (one : Item) → IsRangeText text a b → IsItemText text one → item.Addrs a b ≡ one
+range_is text a b (item.One (lit.Text t)) h k = absurd k
+range_is text a b (item.One (lit.Num n)) h k = absurd k
+range_is text a b (item.One (lit.Bool t)) h k = absurd k
+range_is text a b (item.One (lit.Addr c)) h k = absurd (no_dots_of_range text a b h (IsClean-address text c k).1)
+range_is text a b (item.Nums m n) h k = absurd k
+range_is text a b (item.Addrs c d) h k =
+    let same = range_unique text a b c d h k in
+    ap (λ x. item.Addrs x b) same.0 ∙ ap (λ x. item.Addrs c x) same.1
+range_is text a b (item.Block base bits) h k = absurd (no_dots_of_range text a b h (dots_of_block text base bits k))
+
+block_is : (text : List ℕ) (a : Addr) (m : ℕ) (one : Item) → IsBlockText text a m → IsItemText text one → item.Block a m ≡ one
+block_is text a m (item.One (lit.Text t)) h k = absurd k
+block_is text a m (item.One (lit.Num n)) h k = absurd k
+block_is text a m (item.One (lit.Bool b)) h k = absurd k
+block_is text a m (item.One (lit.Addr b)) h k = absurd (no_slash_at text (length h.left) (IsClean-address text b k).0 (slash_of_block text a m h).1)
+block_is text a m (item.Nums x y) h k = absurd k
+block_is text a m (item.Addrs c d) h k = absurd (no_dots_of_range text c d k (dots_of_block text a m h))
+block_is text a m (item.Block b n) h k =
+    let same = block_unique text a b m n h k in
+    ap (λ x. item.Block x m) same.0 ∙ ap (λ x. item.Block b x) same.1
+
+pub IsItemText-unique : ItemIsUnique
+IsItemText-unique text (item.One (lit.Text t)) b h k = absurd h
+IsItemText-unique text (item.One (lit.Num n)) b h k = absurd h
+IsItemText-unique text (item.One (lit.Bool t)) b h k = absurd h
+IsItemText-unique text (item.One (lit.Addr a)) b h k = address_is text a b h k
+IsItemText-unique text (item.Nums m n) b h k = absurd h
+IsItemText-unique text (item.Addrs first last) b h k = range_is text first last b h k
+IsItemText-unique text (item.Block base bits) b h k = block_is text base bits b h k
+
+-- a text with a fault stands for no item that holds addresses
+pub IsRefused-no_item : (text : List ℕ) → IsNoItem text → IsRefused text
+IsRefused-no_item text none one good = none one good.spelled
+
+pub IsRefused-long_prefix : (text : List ℕ) → IsLongPrefix text → IsRefused text
+IsRefused-long_prefix text (base, bits, block, over) one good =
+    let same = block_is text base bits one block good.spelled in
+    let within : bits ≤ width_of base = subst IsAddrItem (sym same) good.is_good in
+    omega arith
+
+not_both : (first last : Addr) → IsRange first last → ¬ (IsBelow last first)
+not_both (addr.V4 m) (addr.V4 n) h k = omega arith
+not_both (addr.V4 m) (addr.V6 n) h k = h
+not_both (addr.V6 m) (addr.V4 n) h k = h
+not_both (addr.V6 m) (addr.V6 n) h k = omega arith
+
+pub IsRefused-backward : (text : List ℕ) → IsBackward text → IsRefused text
+IsRefused-backward text (first, last, range, below) one good =
+    let same = range_is text first last one range good.spelled in
+    not_both first last (subst IsAddrItem (sym same) good.is_good) below

@@ -55,6 +55,14 @@ pub record IsGoodText (text : List ℕ) (one : Item) : Type 0 where
   pub spelled : IsItemText text one
   pub is_good : IsAddrItem one
 
+-- a text stands for at most one item
+abbrev pub ItemIsUnique : Type 0
+ItemIsUnique = (text : List ℕ) (a b : Item) → IsItemText text a → IsItemText text b → a ≡ b
+
+-- the text stands for no item that holds addresses
+abbrev pub IsRefused : List ℕ → Type 0
+IsRefused text = (one : Item) → ¬ (IsGoodText text one)
+
 -- the text stands for no item
 abbrev pub IsNoItem : List ℕ → Type 0
 IsNoItem text = (one : Item) → ¬ (IsItemText text one)

@@ -2,7 +2,7 @@ ghost use Rattle.std.specs.Prelude.{◌≡◌, ◌↔◌, ℕ, ◌^◌, ◌<◌,
 ghost use Rattle.std.specs.List.{All, AllZip};
 ghost use Rattle.edge_base.specs.declared.address.Addr.{Addr};
 ghost use Rattle.addr_set.specs.Sets.{IsAddrItem, IsRange};
-ghost use Rattle.addr_set.specs.ItemTexts.{IsPrefixText, IsOneFamily, IsBelow, IsGoodText, IsNoItem, IsLongPrefix, IsBackward, IsFirstFault};
+ghost use Rattle.addr_set.specs.ItemTexts.{IsPrefixText, IsOneFamily, IsBelow, IsGoodText, IsNoItem, IsLongPrefix, IsBackward, IsFirstFault, ItemIsUnique};
 ghost use Rattle.addr_set.specs.Readings.{Reads, ReadsJoined, ReadsRange, ReadsBlock};
 
 use edge_base::{Addr, Item, ListedItems, Lit, Texts, parse_addr};
@@ -120,6 +120,11 @@ fn item_of(text: &[u8]) -> Result<Item, Flaw>
         None => Err(Flaw::Address),
     }
 }
+
+/// A law: a text stands for at most one item.
+pub fn item_is_unique()
+    ensures { ItemIsUnique }
+{}
 
 /// The items of these texts: addresses, blocks, and ranges.
 pub fn parse_items(alloc: Global, texts: &Texts) -> Result<ListedItems, ItemFault>
