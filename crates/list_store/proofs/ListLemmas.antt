@@ -18,13 +18,6 @@ AreFineBefore-more parts i e within before here k d low =
           rw (same, get_or_default parts i d e within) here
     ]
 
-pub IsFirstList-here : (Fault : List ListPart → ListPart → Type 0) (parts : List ListPart) (i : ℕ) (e : ListPart) → i < length parts → AreFineBefore parts i → Fault (take i parts) (get_or parts i e) → IsFirstList Fault parts i
-IsFirstList-here Fault parts i e within before here = record {
-  within = within;
-  before = before;
-  here = λ d. rw (get_or_default parts i d e within) here;
-}
-
 -- what belongs to the list at a place
 pub AllZip-place : (parts : List ListPart) (made : List Members) (i : ℕ) (d : ListPart) (e : Members) → AllZip AreMembersOf parts made → i < length parts → AreMembersOf (get_or parts i d) (get_or made i e)
 AllZip-place [] made i d e h below = absurd (omega arith)
@@ -47,18 +40,3 @@ AreMembersOf-at parts now made list d m same h within is =
 pub first_part : (parts : List ListPart) (list : ℕ) → list < length parts → ListPart
 first_part [] list within = absurd (omega arith)
 first_part (part ∷ parts) list within = part
-
-module _ (parts : List ListPart) (i : ℕ) (part : ListPart) (list : ℕ) (within : i < length parts) (before : AreFineBefore parts i) (is : part ≡ get_or parts i part) (place : list ≡ i) where
-  module _ (Fault : List ListPart → ListPart → Type 0) where
-    at_place : (n : ℕ) → n ≡ list → Fault (take list parts) part → IsFirstList Fault parts n
-    at_place n same fault =
-        rw (same, place) (IsFirstList-here Fault parts i part within before (rw (← is) (rw place at fault)))
-
-  pub IsFirstList-repeated : (n : ℕ) → Makes (take list parts) part list (Err (fault.DuplicateList n)) → IsFirstList IsRepeated parts n
-  IsFirstList-repeated n h = at_place IsRepeated n h.0 h.1
-
-  pub IsFirstList-too_many : (n : ℕ) → Makes (take list parts) part list (Err (fault.TooManyItems n)) → IsFirstList HasTooMany parts n
-  IsFirstList-too_many n h = at_place HasTooMany n h.0 h.1
-
-  pub IsFirstList-bad_item : (n at : ℕ) → Makes (take list parts) part list (Err (fault.BadListItem n at)) → IsFirstList (HasBadItem at) parts n
-  IsFirstList-bad_item n at h = at_place (HasBadItem at) n h.0 h.1

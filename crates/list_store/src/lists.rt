@@ -93,3 +93,6 @@ impl Lists {
         }
     }
 }
+
+#[cfg(test)]
+mod tests;
