@@ -1,0 +1,6 @@
+pub mod CleanLemmas
+pub mod IntervalLemmas
+pub mod ListLemmas
+pub mod PrefixLemmas
+pub mod ReadingLemmas
+pub mod SpanLemmas

@@ -1,0 +1,28 @@
+-- Intervals of numbers.
+use Rattle.std.specs.Prelude.{ℕ, ◌+◌, ◌-◌, ◌*◌, ◌/◌, ◌^◌, ◌<◌, ◌≤◌, Bool, ◌&&◌, nat_le, List}
+use Rattle.std.specs.List.{list_any, AllPairs}
+use Rattle.addr_set.specs.declared.intervals.Interval.{Interval}
+
+-- whether a number is one of an interval
+abbrev pub is_in : Interval → ℕ → Bool
+is_in interval number = nat_le interval.first number && nat_le number interval.last
+
+-- whether it is one of some interval
+abbrev pub is_in_any : List Interval → ℕ → Bool
+is_in_any intervals number = list_any (λ interval. is_in interval number) intervals
+
+-- the first of the numbers that differ from a number in their last bits at most
+abbrev pub first_of_block : ℕ → ℕ → ℕ
+first_of_block last_bits number = number / 2 ^ last_bits * 2 ^ last_bits
+
+-- the last of them
+abbrev pub last_of_block : ℕ → ℕ → ℕ
+last_of_block last_bits number = first_of_block last_bits number + (2 ^ last_bits - 1)
+
+-- all of them
+abbrev pub block_of : ℕ → ℕ → Interval
+block_of last_bits number = record { first = first_of_block last_bits number; last = last_of_block last_bits number }
+
+-- each interval begins no later than those after it, and ends before they begin
+abbrev pub AreApart : List Interval → Type 0
+AreApart intervals = AllPairs (λ one later. (one.first ≤ later.first) × (one.last < later.first)) intervals

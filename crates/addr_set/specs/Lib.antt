@@ -1,0 +1,5 @@
+pub mod Intervals
+pub mod ItemTexts
+pub mod Readings
+pub mod Sets
+pub mod Spans
