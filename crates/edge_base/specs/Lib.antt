@@ -1,2 +1,4 @@
 pub mod Address
+pub mod Grammar
+pub mod Nesting
 pub mod Printed
