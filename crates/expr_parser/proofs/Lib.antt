@@ -1,0 +1,7 @@
+pub mod Faults
+pub mod ReadExpressions
+pub mod ReadTests
+pub mod Standing
+pub mod Steps
+pub mod TestSteps
+pub mod Together
