@@ -1,4 +1,5 @@
 pub mod Faults
+pub mod Places
 pub mod ReadExpressions
 pub mod ReadTests
 pub mod Standing

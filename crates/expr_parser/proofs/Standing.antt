@@ -118,7 +118,7 @@ pub record StandsAt (P : List Terminal → Type 0) (f : Frame) (below : List Lev
 -- a state stands for these terminals
 abbrev pub StandsIn : Mode → Frame → List Level → List Terminal → Type 0
 StandsIn mode.Begin f below x = (f ≡ fresh) × Takes below × Around below x
-StandsIn (mode.Literal l) f below x = (t : Terminal) (outer : List Terminal) × IsLiteral t l × Takes below × Around below outer × (x ≡ outer ++ t ∷ [])
+StandsIn (mode.Literal l) f below x = (t : Terminal) × (outer : List Terminal) × IsLiteral t l × Takes below × Around below outer × (x ≡ outer ++ t ∷ [])
 StandsIn m f below x = StandsAt (Inside m) f below x
 
 abbrev pub StandsFor : State → List Terminal → Type 0
