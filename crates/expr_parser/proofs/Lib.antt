@@ -2,6 +2,7 @@ pub mod Faults
 pub mod Places
 pub mod ReadExpressions
 pub mod ReadTests
+pub mod Spelled
 pub mod Standing
 pub mod Steps
 pub mod TestSteps

@@ -3,11 +3,15 @@
 #![tactic(auto)]
 
 mod chains;
+mod depth;
 mod levels;
+mod numbers;
 mod paths;
 mod reading;
+mod spellings;
 mod stack;
 mod state;
 mod testing;
+mod texts;
 
 pub use reading::{Reading, derivations_are_unique, faults_are_unique, read};
