@@ -184,3 +184,19 @@ counted f (Some s) = suc (f s)
 abbrev pub taken : List Terminal → State → ℕ
 taken [] s = 0
 taken (t ∷ ts) s = counted (λ next. taken ts next) (step s t)
+
+-- a tree that stands for any other: what may follow doesn't depend on the trees read
+abbrev pub stub : Expr
+stub = expr.Lit (lit.Bool false)
+
+abbrev pub bare_mode : Mode → Mode
+bare_mode (mode.Path e) = mode.Path stub
+bare_mode (mode.Index e) = mode.Index stub
+bare_mode (mode.IndexEnd e) = mode.IndexEnd stub
+bare_mode (mode.Testing e x) = mode.Testing stub x
+bare_mode (mode.Done e) = mode.Done stub
+bare_mode m = m
+
+-- the state without the trees of its innermost level
+abbrev pub bared : State → State
+bared s = state (bare_mode s.mode) fresh s.below
