@@ -81,11 +81,23 @@ further_alike opened.Group (opened.Call n es) d e f g b c h p = absurd cc
 further_alike (opened.Call n es) opened.Group d e f g b c h p = absurd cc
 further_alike (opened.Call n es) (opened.Call m ds) d e f g b c h p = ap (λ v. Some (state mode.Begin fresh (level (opened.Call [] []) fresh ∷ v))) p
 
+abbrev first_opened : List Level → Opened
+first_opened [] = opened.Group
+first_opened (l ∷ below) = l.opened
+
+abbrev behind_first : List Level → List Level
+behind_first [] = []
+behind_first (l ∷ below) = below
+
+abbrev found_state : State → Option State → State
+found_state other None = other
+found_state other (Some s) = s
+
 head_alike : (l m : Level) (b c : List Level) → bare_levels (l ∷ b) ≡ bare_levels (m ∷ c) → bare_opened l.opened ≡ bare_opened m.opened
-head_alike l m b c p = cc
+head_alike l m b c p = ap first_opened p
 
 tail_alike : (l m : Level) (b c : List Level) → bare_levels (l ∷ b) ≡ bare_levels (m ∷ c) → bare_levels b ≡ bare_levels c
-tail_alike l m b c p = cc
+tail_alike l m b c p = ap behind_first p
 
 whole_alike : (t : Terminal) (d e : Expr) (b c : List Level) → bare_levels b ≡ bare_levels c → Alike (at_whole t d b) (at_whole t e c)
 whole_alike terminal.Close d e [] [] p = refl
@@ -205,7 +217,7 @@ taken_on : (o p : Option State) (ts : List Terminal) → Alike o p → ((s r : S
 taken_on None None ts h k = refl
 taken_on None (Some r) ts h k = absurd cc
 taken_on (Some s) None ts h k = absurd cc
-taken_on (Some s) (Some r) ts h k = let same : bare s ≡ bare r = cc in ap suc (k s r same)
+taken_on (Some s) (Some r) ts h k = let same : bare s ≡ bare r = ap (found_state (bare s)) h in ap suc (k s r same)
 
 taken_alike : (ts : List Terminal) (s r : State) → bare s ≡ bare r → taken ts s ≡ taken ts r
 taken_alike [] s r p = refl
@@ -216,7 +228,7 @@ outcome_on : (o p : Option State) (ts : List Terminal) → Alike o p → ((s r :
 outcome_on None None ts h k = refl
 outcome_on None (Some r) ts h k = absurd cc
 outcome_on (Some s) None ts h k = absurd cc
-outcome_on (Some s) (Some r) ts h k = let same : bare s ≡ bare r = cc in k s r same
+outcome_on (Some s) (Some r) ts h k = let same : bare s ≡ bare r = ap (found_state (bare s)) h in k s r same
 
 outcome_alike : (ts : List Terminal) (s r : State) → bare s ≡ bare r → is_some (outcome ts s) ≡ is_some (outcome ts r)
 outcome_alike [] s r p = ending_alike s r p

@@ -1,5 +1,8 @@
 pub mod Bare
+pub mod CutTokens
 pub mod Faults
+pub mod Marks
+pub mod OneAnswer
 pub mod Places
 pub mod ReadExpressions
 pub mod ReadTests

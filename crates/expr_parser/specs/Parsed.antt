@@ -1,5 +1,5 @@
 -- What `parse` answers.
-use Rattle.std.specs.Prelude.{◌≡◌, ℕ, zero, suc, ◌<◌, ◌≤◌, List, [], ◌∷◌, length, Ok, Err}
+use Rattle.std.specs.Prelude.{◌≡◌, ◌≢◌, ℕ, zero, suc, ◌<◌, ◌≤◌, List, [], ◌∷◌, length, Ok, Err}
 use Rattle.std.specs.declared.result.Result.{Result}
 use Rattle.std.specs.List.{between}
 use Rattle.edge_base.specs.declared.expression.Expr.{Expr}
@@ -38,3 +38,7 @@ IsAnswer text (Err (fault.Lex at)) = (length text ≤ 4096) × IsFirstFault text
 IsAnswer text (Err (fault.Syntax at)) = (tokens : List Token) × (terminals : List Terminal) × (place : ℕ) × IsTokenized text tokens terminals × IsFault terminals place × (at ≡ place_of tokens (length text) place)
 IsAnswer text (Err fault.TooDeep) = (tokens : List Token) × (terminals : List Terminal) × (e : Expr) × IsTokenized text tokens terminals × Derives terminals e × (32 < nesting terminals)
 IsAnswer text (Err fault.Memory) = Unit {0}
+
+-- a text has one answer, but for want of memory
+abbrev pub AnswersAreUnique : Type 0
+AnswersAreUnique = (text : List ℕ) (a b : Result Expr ParseFault) → IsAnswer text a → IsAnswer text b → a ≢ Err fault.Memory → b ≢ Err fault.Memory → a ≡ b

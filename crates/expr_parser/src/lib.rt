@@ -4,6 +4,7 @@
 
 mod chains;
 mod depth;
+mod grammar;
 mod levels;
 mod numbers;
 mod paths;
@@ -11,7 +12,9 @@ mod reading;
 mod spellings;
 mod stack;
 mod state;
+mod terminals;
 mod testing;
 mod texts;
 
-pub use reading::{Reading, derivations_are_unique, faults_are_unique, read};
+pub use grammar::{ParseFault, parse};
+pub use reading::{derivations_are_unique, faults_are_unique};

@@ -1,4 +1,4 @@
-ghost use Rattle.std.specs.Prelude.{◌≡◌, false, nat_eq, replicate, IfOk};
+ghost use Rattle.std.specs.Prelude.{◌≡◌, ◌==◌, false, nat_eq, replicate, IfOk};
 ghost use Rattle.std.specs.List.{list_all, starts_with, prefix_len};
 ghost use Rattle.edge_base.specs.Token.{is_name_byte, quoted_of, text_of, raw_bytes_of, marks_of, raw_text_of, list_name_of};
 
@@ -45,11 +45,18 @@ pub fn text_of(alloc: Global, text: &[u8]) -> Result<Option<Text>, Memory>
     }
 }
 
+fn are_marks(text: &[u8]) -> bool
+    ensures { result ≡ list_all (λ byte. byte == 35) text.now }
+{
+    text.iter().all(|&byte| byte == b'#')
+}
+
 /// Whether a text begins with this many marks `#`.
+#[tactic(auto, using(crate::proofs::Marks::marks_front))]
 fn begins_with_marks(text: &[u8], marks: usize) -> bool
     ensures { result ≡ starts_with nat_eq text.now (replicate marks 35) }
 {
-    marks <= text.len() && text[..marks].iter().all(|&byte| byte == b'#')
+    marks <= text.len() && are_marks(&text[..marks])
 }
 
 /// How many marks `#` a text begins with.
