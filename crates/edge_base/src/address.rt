@@ -1,7 +1,10 @@
 ghost use Rattle.std.specs.Prelude.{◌≡◌, IfOk, MatchOption};
-ghost use Rattle.edge_base.specs.Address.{IsAddrText};
+ghost use Rattle.std.specs.String.{string_bytes};
+ghost use Rattle.edge_base.specs.Address.{IsAddrText, AddressIsUnique, addr_text};
 
 use crate::refusal::Memory;
+use crate::text::Text;
+use std::alloc::Global;
 use std::net::{Ipv4Addr, Ipv6Addr};
 
 /// An address: its family and its number.
@@ -31,3 +34,31 @@ pub fn parse_addr(text: &[u8]) -> Option<Addr>
         Err(_) => None,
     }
 }
+
+/// A law: a text stands for at most one address.
+pub fn address_is_unique()
+    ensures { AddressIsUnique }
+{}
+
+/// The digits of an address, and what stands between them.
+fn spelling(alloc: Global, addr: Addr) -> Result<String, Memory>
+    ensures text { IfOk result (λ text. string_bytes text ≡ addr_text addr) }
+    ensures read { IfOk result (λ text. IsAddrText (string_bytes text) addr) }
+{
+    match addr {
+        Addr::V4(number) => Ok(Ipv4Addr::from_bits(number).to_string(alloc)?),
+        // `Ipv6Addr` itself would write the end of `::ffff:a00:1` as a V4 text.
+        Addr::V6(number) => Ok(Ipv6Addr::from_bits(number).hex_groups().to_string(alloc)?),
+    }
+}
+
+/// The one spelling of an address.
+pub fn print_addr(alloc: Global, addr: Addr) -> Result<Text, Memory>
+    ensures text { IfOk result (λ text. text ≡ addr_text addr) }
+    ensures read { IfOk result (λ text. IsAddrText text addr) }
+{
+    Ok(Text::from_vec(spelling(alloc, addr)?.into_bytes()))
+}
+
+#[cfg(test)]
+mod tests;

@@ -13,7 +13,7 @@ mod terminal;
 mod text;
 mod token;
 
-pub use address::{Addr, parse_addr};
+pub use address::{Addr, address_is_unique, parse_addr, print_addr};
 pub use builder::TextBuilder;
 pub use expression::{Expr, Exprs, Item, ListedItems, Lit, Order, Test, copy_exprs, copy_items};
 pub use message::{Header, Headers, Reply, Request, copy_headers};
