@@ -7,6 +7,7 @@ pub mod Places
 pub mod ReadExpressions
 pub mod ReadTests
 pub mod Spelled
+pub mod SpellingLaws
 pub mod Standing
 pub mod Steps
 pub mod TestSteps

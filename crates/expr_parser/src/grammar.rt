@@ -1,12 +1,12 @@
 ghost use Rattle.std.specs.Prelude.{◌≡◌, ◌≤◌, length};
 ghost use Rattle.edge_base.specs.Cut.{IsCut};
-ghost use Rattle.expr_parser.specs.Parsed.{AreTokensOf, place_of, IsAnswer};
+ghost use Rattle.expr_parser.specs.Parsed.{AreTokensOf, place_of, IsAnswer, AnswersAreUnique};
 
 use crate::depth::nesting;
 use crate::reading::{Reading, fault_of, read};
 use crate::terminals::terminals_of;
-use edge_base::{Expr, Memory, Token};
-use expr_lexer::{LexFault, lex};
+use edge_base::{Expr, Memory, Token, address_is_unique};
+use expr_lexer::{LexFault, cuts_are_unique, faults_are_unique, lex};
 use std::alloc::Global;
 
 /// Why a text is no expression.
@@ -84,4 +84,13 @@ pub fn parse(alloc: Global, text: &[u8]) -> Result<Expr, ParseFault>
         Err(LexFault::Lex { at }) => Err(ParseFault::Lex { at }),
         Err(LexFault::Memory) => Err(ParseFault::Memory),
     }
+}
+
+/// No text has two answers, but for want of memory.
+pub fn answers_are_unique()
+    ensures { AnswersAreUnique }
+{
+    address_is_unique();
+    cuts_are_unique();
+    faults_are_unique();
 }

@@ -1,10 +1,10 @@
 ghost use Rattle.std.specs.Prelude.{◌≡◌, ◌+◌, [], ◌∷◌, ◌++◌, IfOk};
-ghost use Rattle.expr_parser.specs.Machine.{frame, fresh, state, start, at_want, at_begin, closed, further, at_whole, at_end};
+ghost use Rattle.expr_parser.specs.Machine.{frame, fresh, state, start, negate, and_of, xor_of, at_want, at_begin, closed, further, at_whole, at_end};
 
 use crate::chains::{and_of, chain_of, negated, xor_of};
 use crate::stack::Stack;
 use crate::state::{Frame, Level, Mode, Opened, State};
-use edge_base::{Expr, Exprs, Lit, Memory, Terminal};
+use edge_base::{Expr, Lit, Memory, Terminal};
 use sqlite_items::Items;
 use std::alloc::Global;
 
@@ -179,18 +179,68 @@ pub fn at_whole(
     }
 }
 
+/// The level behind a unit and `and`.
+fn behind_and(alloc: Global, unit: Expr, top: Frame) -> Result<Frame, Memory>
+    ensures { IfOk result (λ f. f ≡ frame top.ors top.xors (top.ands ++ negate top.nots unit ∷ []) 0) }
+{
+    let Frame {
+        ors,
+        xors,
+        mut ands,
+        nots,
+    } = top;
+    ands.push(negated(alloc, nots, unit)?)?;
+    Ok(Frame {
+        ors,
+        xors,
+        ands,
+        nots: 0,
+    })
+}
+
+/// The level behind a unit and `xor`.
+fn behind_xor(alloc: Global, unit: Expr, top: Frame) -> Result<Frame, Memory>
+    ensures { IfOk result (λ f. f ≡ frame top.ors (top.xors ++ and_of top unit ∷ []) [] 0) }
+{
+    let Frame {
+        ors,
+        mut xors,
+        ands,
+        nots,
+    } = top;
+    xors.push(and_of(alloc, ands, nots, unit)?)?;
+    Ok(Frame {
+        ors,
+        xors,
+        ands: Items::new(alloc),
+        nots: 0,
+    })
+}
+
+/// The level behind a unit and `or`.
+fn behind_or(alloc: Global, unit: Expr, top: Frame) -> Result<Frame, Memory>
+    ensures { IfOk result (λ f. f ≡ frame (top.ors ++ xor_of top unit ∷ []) [] [] 0) }
+{
+    let Frame {
+        mut ors,
+        xors,
+        ands,
+        nots,
+    } = top;
+    ors.push(xor_of(alloc, xors, ands, nots, unit)?)?;
+    Ok(Frame {
+        ors,
+        ..fresh(alloc)
+    })
+}
+
 /// A unit begins behind an operator.
-fn wanting(ors: Exprs, xors: Exprs, ands: Exprs, below: Stack<Level>) -> State
-    ensures { result ≡ state Mode.Want (frame ors xors ands 0) below }
+fn wanting(top: Frame, below: Stack<Level>) -> State
+    ensures { result ≡ state Mode.Want top below }
 {
     State {
         mode: Mode::Want,
-        top: Frame {
-            ors,
-            xors,
-            ands,
-            nots: 0,
-        },
+        top,
         below,
     }
 }
@@ -206,41 +256,9 @@ pub fn at_end(
     ensures { IfOk result (λ next. next ≡ at_end terminal unit top below) }
 {
     match terminal {
-        Terminal::And => {
-            let Frame {
-                ors,
-                xors,
-                mut ands,
-                nots,
-            } = top;
-            ands.push(negated(alloc, nots, unit)?)?;
-            Ok(Some(wanting(ors, xors, ands, below)))
-        }
-        Terminal::Xor => {
-            let Frame {
-                ors,
-                mut xors,
-                ands,
-                nots,
-            } = top;
-            xors.push(and_of(alloc, ands, nots, unit)?)?;
-            Ok(Some(wanting(ors, xors, Items::new(alloc), below)))
-        }
-        Terminal::Or => {
-            let Frame {
-                mut ors,
-                xors,
-                ands,
-                nots,
-            } = top;
-            ors.push(xor_of(alloc, xors, ands, nots, unit)?)?;
-            Ok(Some(wanting(
-                ors,
-                Items::new(alloc),
-                Items::new(alloc),
-                below,
-            )))
-        }
+        Terminal::And => Ok(Some(wanting(behind_and(alloc, unit, top)?, below))),
+        Terminal::Xor => Ok(Some(wanting(behind_xor(alloc, unit, top)?, below))),
+        Terminal::Or => Ok(Some(wanting(behind_or(alloc, unit, top)?, below))),
         other => {
             let chain = chain_of(alloc, top, unit)?;
             at_whole(alloc, other, chain, below)

@@ -8,6 +8,8 @@ mod grammar;
 mod levels;
 mod numbers;
 mod paths;
+mod phrases;
+mod printer;
 mod reading;
 mod spellings;
 mod stack;
@@ -16,5 +18,6 @@ mod terminals;
 mod testing;
 mod texts;
 
-pub use grammar::{ParseFault, parse};
+pub use grammar::{ParseFault, answers_are_unique, parse};
+pub use printer::print;
 pub use reading::{derivations_are_unique, faults_are_unique};
