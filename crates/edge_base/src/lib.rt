@@ -9,6 +9,7 @@ mod message;
 mod moment;
 mod refusal;
 mod rule_name;
+mod terminal;
 mod text;
 mod token;
 
@@ -19,5 +20,6 @@ pub use message::{Header, Headers, Reply, Request, copy_headers};
 pub use moment::Moment;
 pub use refusal::Memory;
 pub use rule_name::{RuleName, RuleNames, copy_rule_names};
+pub use terminal::{Terminal, Terminals};
 pub use text::{Text, Texts, copy_texts};
 pub use token::{Token, TokenKind, Tokens};

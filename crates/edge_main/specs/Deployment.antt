@@ -2,10 +2,10 @@
 use Rattle.std.specs.Prelude.{ℕ, ◌&&◌, ◌||◌, ◌==◌, nat_lt, nat_le, Bool, true, false, List, length, codes, Option, Some, None, option_map, option_and_then}
 use Rattle.std.specs.List.{list_all}
 use Rattle.std.specs.Str.{bytes_eq}
-use Rattle.serde_json.specs.Data.{Data, Items, no_items, item, Members}
-use Rattle.serde_json.specs.Find.{get, as_str, as_array, as_object}
-use Rattle.serde_json.specs.Events.{members_len}
-use Rattle.expr_parser.specs.Form.{form_of}
+use Rattle.serde_json.specs.Data.{Data, Items, no_items, item}
+use Rattle.serde_json.specs.Find.{get, as_array}
+use Rattle.trace_form.specs.Members.{has_members, text_of}
+use Rattle.edge_main.specs.Form.{form_of}
 use Rattle.edge_main.specs.declared.deployment.Deployed.{Deployed}
 use Rattle.edge_main.specs.declared.deployment.PathRule.{PathRule}
 
@@ -21,19 +21,6 @@ is_id text = nat_lt 0 (length text) && nat_le (length text) 64 && list_all is_id
 abbrev pub tested : {A : Type 0} → Bool → Option A → Option A
 tested true found = found
 tested false found = None
-
--- the members are so many
-abbrev pub are_so_many : ℕ → Option Members → Bool
-are_so_many count None = false
-are_so_many count (Some members) = members_len members == count
-
--- the value is an object of so many members
-abbrev pub has_members : ℕ → Data → Bool
-has_members count value = are_so_many count (as_object value)
-
--- the text of a member
-abbrev pub text_of : List ℕ → Data → Option (List ℕ)
-text_of name value = option_and_then as_str (get name value)
 
 -- the text is the one that is wanted
 abbrev pub is_same_text : List ℕ → Option (List ℕ) → Bool

@@ -1,4 +1,5 @@
 pub mod Deployment
+pub mod Form
 pub mod Judging
 pub mod Output
 pub mod Running

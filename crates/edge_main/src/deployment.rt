@@ -1,13 +1,14 @@
 ghost use Rattle.std.specs.Prelude.{◌≡◌, ℕ, List, IfOk, Some, option_map};
 ghost use Rattle.std.specs.List.{list_all};
 ghost use Rattle.serde_json.specs.View.{view, items_view};
-ghost use Rattle.expr_parser.specs.Form.{form_of, path_equals};
-ghost use Rattle.edge_main.specs.Deployment.{is_id_byte, is_id, has_members, text_of, is_text, id_of, at_most_one, only_of, rule_of, rules_of, is_taken_set, set_of, sets_of, deployed_of};
+ghost use Rattle.trace_form.specs.Members.{has_members};
+ghost use Rattle.edge_main.specs.Deployment.{is_id_byte, is_id, is_text, id_of, at_most_one, only_of, rule_of, rules_of, is_taken_set, set_of, sets_of, deployed_of};
 
-use edge_base::{Expr, Lit, Memory, RuleName, Test, Text};
-use expr_parser::{ParseFault, parse};
+use crate::form::form_of;
+use edge_base::{Memory, RuleName, Text};
 use serde_json::Value;
 use std::alloc::Global;
+use trace_form::{has_members, text_of};
 
 /// A rule that blocks the requests for one path.
 #[derive(Debug, Drop)]
@@ -45,39 +46,22 @@ fn is_id(text: &[u8]) -> bool
     0 < text.len() && text.len() <= 64 && are_id_bytes(text)
 }
 
-/// Whether the value is an object of so many members.
-fn has_members(value: &Value, count: usize) -> bool
-    ensures { result ≡ has_members count (view value.now) }
-{
-    match value.as_object() {
-        None => false,
-        Some(members) => members.len() == count,
-    }
-}
-
-/// The text of a member.
-fn text_of<'a>(value: &'a Value, name: &str) -> Option<&'a str>
-    ensures { option_map (λ text. text.now) result ≡ text_of name.now (view value.now) }
-{
-    value.get(name).and_then(Value::as_str)
-}
-
 /// Whether a member is this text.
 fn is_text(value: &Value, name: &str, wanted: &str) -> bool
     ensures { result ≡ is_text name.now wanted.now (view value.now) }
 {
     match text_of(value, name) {
         None => false,
-        Some(text) => text.as_bytes() == wanted.as_bytes(),
+        Some(text) => text == wanted.as_bytes(),
     }
 }
 
 /// The id of a ruleset or a rule.
-fn id_of(value: &Value) -> Option<&str>
+fn id_of(value: &Value) -> Option<&[u8]>
     ensures { option_map (λ id. id.now) result ≡ id_of (view value.now) }
 {
     let id = text_of(value, "id")?;
-    if is_id(id.as_bytes()) { Some(id) } else { None }
+    if is_id(id) { Some(id) } else { None }
 }
 
 /// The element of a list that has at most one; no answer for a longer list.
@@ -99,33 +83,8 @@ fn only_of<'a>(value: &'a Value, name: &str) -> Option<Option<&'a Value>>
     at_most_one(values.as_slice())
 }
 
-/// The text that a tree of the one form compares the path with.
-fn compared_text(expr: &Expr) -> Option<&Text>
-    ensures { (path : List ℕ) → expr.now ≡ path_equals path → option_map (λ text. text.now) result ≡ Some path }
-{
-    match expr {
-        Expr::Test(_, Test::Order(_, Lit::Text(path))) => Some(path),
-        _ => None,
-    }
-}
-
-/// The path that an expression compares with, where it has the one form.
-fn compared_path(alloc: Global, expression: &[u8]) -> Result<Option<Text>, Memory>
-    ensures { IfOk result (λ path. path ≡ form_of expression.now) }
-{
-    let expr = match parse(alloc, expression) {
-        Ok(expr) => expr,
-        Err(ParseFault::Unsupported) => return Ok(None),
-        Err(ParseFault::Memory) => return Err(Memory),
-    };
-    match compared_text(&expr) {
-        None => Ok(None),
-        Some(path) => Ok(Some(path.copy(alloc)?)),
-    }
-}
-
 /// A rule: an id, an expression that compares the path, and the action `block`.
-fn rule_of(alloc: Global, set_id: &str, value: &Value) -> Result<Option<PathRule>, Memory>
+fn rule_of(alloc: Global, set_id: &[u8], value: &Value) -> Result<Option<PathRule>, Memory>
     ensures { IfOk result (λ rule. rule ≡ rule_of set_id.now (view value.now)) }
 {
     if !(has_members(value, 3) && is_text(value, "action", "block")) {
@@ -137,17 +96,18 @@ fn rule_of(alloc: Global, set_id: &str, value: &Value) -> Result<Option<PathRule
     let Some(expression) = text_of(value, "expression") else {
         return Ok(None);
     };
-    let Some(path) = compared_path(alloc, expression.as_bytes())? else {
+    let Some(path) = form_of(expression) else {
         return Ok(None);
     };
     let name = RuleName {
-        set_id: Text::of(alloc, set_id.as_bytes())?,
-        rule: Text::of(alloc, id.as_bytes())?,
+        set_id: Text::of(alloc, set_id)?,
+        rule: Text::of(alloc, id)?,
     };
+    let path = Text::of(alloc, path)?;
     Ok(Some(PathRule { name, path }))
 }
 
-fn rules_of(alloc: Global, set_id: &str, value: Option<&Value>) -> Result<Option<Deployed>, Memory>
+fn rules_of(alloc: Global, set_id: &[u8], value: Option<&Value>) -> Result<Option<Deployed>, Memory>
     ensures { IfOk result (λ deployed. deployed ≡ rules_of set_id.now (option_map (λ v. view v.now) value.entry)) }
 {
     let Some(value) = value else {

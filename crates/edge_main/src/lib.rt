@@ -2,6 +2,7 @@
 #![tactic(auto)]
 
 mod deployment;
+mod form;
 mod hashers;
 mod judging;
 mod laws;

@@ -1,1 +1,5 @@
-pub mod Form
+pub mod Machine
+pub mod Parsed
+pub mod Reading
+pub mod Spelling
+pub mod Testing

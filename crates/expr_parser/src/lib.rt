@@ -1,12 +1,23 @@
-//! Reads the text of an expression of the Rules language into its tree. As yet it takes one form: the path of the
-//! request compared with a text.
+//! The parser of the Rules language: from a text to its one tree, by a machine that reads one terminal after the other
+//! and keeps what is open on a stack of its own.
 #![tactic(auto)]
 
-mod fault;
-mod form;
+mod chains;
+mod depth;
+mod grammar;
+mod levels;
+mod numbers;
+mod paths;
+mod phrases;
+mod printer;
+mod reading;
+mod spellings;
+mod stack;
+mod state;
+mod terminals;
+mod testing;
+mod texts;
 
-pub use fault::ParseFault;
-pub use form::parse;
-
-#[cfg(test)]
-mod tests;
+pub use grammar::{ParseFault, answers_are_unique, parse};
+pub use printer::print;
+pub use reading::{derivations_are_unique, faults_are_unique};

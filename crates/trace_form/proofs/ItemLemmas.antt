@@ -11,7 +11,8 @@ use Rattle.std.specs.Net.Addr.{ipv4_octets, ipv4_bits}
 use Rattle.std.specs.Net.Grammar.{IsDotted, IsIpv4Text}
 use Rattle.std.specs.Net.Reader.{read_ipv4}
 use Rattle.std.proofs.NetLemmas.Ipv4.{read_ipv4_complete, read_ipv4_sound}
-use Rattle.std.proofs.NetLemmas.Theorems.{IsIpv4Text_unique}
+use Rattle.edge_base.specs.Address.{IsAddrText}
+use Rattle.edge_base.proofs.AddressLemmas.{IsAddrText-ipv4, IsAddrText-unique}
 use Rattle.serde_json.specs.Data.{Data, Members}
 use Rattle.serde_json.specs.Read.{read}
 use Rattle.serde_json.specs.Find.{as_object}
@@ -75,8 +76,7 @@ IsDeploy-unique line a b is_a is_b = same_Some a b (sym is_a.deploy ∙ deployed
 IsPeer-unique : (value : Data) (a b : Addr) → IsPeer value a → IsPeer value b → a ≡ b
 IsPeer-unique value (addr.V4 m) (addr.V4 n) is_m is_n =
     let same_text = same_Some is_n.0 is_m.0 (sym is_n.1 ∙ is_m.1) in
-    let same = IsIpv4Text_unique is_m.0 is_m.2.0 is_n.2.0 is_m.2.1 (subst (λ text. IsIpv4Text text is_n.2.0) same_text is_n.2.1) in
-    ap addr.V4 (is_m.2.2 ∙ ap ipv4_bits same ∙ sym is_n.2.2)
+    IsAddrText-unique is_m.0 (addr.V4 m) (addr.V4 n) is_m.2 (subst (λ text. IsAddrText text (addr.V4 n)) same_text is_n.2)
 IsPeer-unique value (addr.V4 m) (addr.V6 n) is_m is_n = absurd is_n
 IsPeer-unique value (addr.V6 m) b is_m is_b = absurd is_m
 
@@ -132,10 +132,12 @@ found-ipv4 text = of_read (read_ipv4 text) refl where
 found-peer : (value : Data) → Found (IsPeer value)
 found-peer value = of_text (text_of (codes "ip") value) refl where
   of_addr : (text : List ℕ) → text_of (codes "ip") value ≡ Some text → Found (IsIpv4Text text) → Found (IsPeer value)
-  of_addr text is_text (inl (a, is_a)) = inl (addr.V4 (ipv4_bits a), (text, is_text, (a, is_a, refl)))
+  of_addr text is_text (inl (a, is_a)) = inl (addr.V4 (ipv4_bits a), (text, is_text, IsAddrText-ipv4 text a is_a))
   of_addr text is_text (inr none) = inr (λ peer. not_peer peer) where
     not_peer : (peer : Addr) → ¬ (IsPeer value peer)
-    not_peer (addr.V4 n) is_n = none is_n.2.0 (subst (λ t. IsIpv4Text t is_n.2.0) (same_Some is_n.0 text (sym is_n.1 ∙ is_text)) is_n.2.1)
+    not_peer (addr.V4 n) is_n =
+        let a : Ipv4Addr = record { octets = is_n.2.0 } in
+        none a (subst (λ t. IsIpv4Text t a) (same_Some is_n.0 text (sym is_n.1 ∙ is_text)) is_n.2.1)
     not_peer (addr.V6 n) is_n = is_n
 
   of_text : (text : Option (List ℕ)) → text_of (codes "ip") value ≡ text → Found (IsPeer value)

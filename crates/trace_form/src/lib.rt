@@ -12,6 +12,7 @@ mod request;
 mod verdict;
 
 pub use item::{LineItem, Recorded};
+pub use members::{has_members, text_of};
 pub use output::{LineParts, line_of, push_bad_line, push_deploy_line, push_line};
 pub use reader::read_item;
 pub use refusal::{BadCause, LineFault};

@@ -10,7 +10,7 @@ use serde_json::Value;
 const TOKEN_MARKS: &[u8] = b"!#$%&'*+-.^_`|~";
 
 /// Whether the value is an object of so many members.
-pub(crate) fn has_members(value: &Value, count: usize) -> bool
+pub fn has_members(value: &Value, count: usize) -> bool
     ensures { result ≡ has_members count (view value.now) }
 {
     match value.as_object() {
@@ -37,7 +37,7 @@ pub(crate) fn has_items(value: &Value, count: usize) -> bool
 }
 
 /// The text of a member.
-pub(crate) fn text_of<'v>(value: &'v Value, name: &str) -> Option<&'v [u8]>
+pub fn text_of<'v>(value: &'v Value, name: &str) -> Option<&'v [u8]>
     ensures { option_map (λ text. text.now) result ≡ text_of name.now (view value.now) }
 {
     let text = value.get(name)?.as_str()?;

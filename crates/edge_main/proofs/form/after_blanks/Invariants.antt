@@ -1,0 +1,11 @@
+use Rattle.std.proofs.Common.{◌≡◌, ◌+◌, ◌-◌, ◌≤◌, length, drop}
+use Rattle.std.specs.List.{prefix_len}
+use Rattle.edge_main.specs.Form.{is_blank}
+use Rattle.edge_main.proofs.form.after_blanks.Given as goal
+
+-- the bytes passed, and those that still pass, are all at the front that pass
+abbrev pub invariant-loop-at : goal.invariant-loop-at
+invariant-loop-at l = (l.at ≤ length l.text) × (l.at + prefix_len is_blank (drop l.at l.text) ≡ prefix_len is_blank l.text)
+
+abbrev pub decreases-loop-at : goal.decreases-loop-at
+decreases-loop-at l = length l.text - l.at

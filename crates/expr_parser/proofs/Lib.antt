@@ -1,0 +1,14 @@
+pub mod Bare
+pub mod CutTokens
+pub mod Faults
+pub mod Marks
+pub mod OneAnswer
+pub mod Places
+pub mod ReadExpressions
+pub mod ReadTests
+pub mod Spelled
+pub mod SpellingLaws
+pub mod Standing
+pub mod Steps
+pub mod TestSteps
+pub mod Together

@@ -1,0 +1,101 @@
+ghost use Rattle.std.specs.Prelude.{◌≡◌, ◌+◌, ◌≤◌, ◌++◌, map, nat_lt, IfOk, OnOk};
+ghost use Rattle.expr_parser.specs.Spelling.{joined, within, spelling_at, spelling};
+
+use crate::phrases::{push_lit, push_quoted, push_signed, push_test};
+use edge_base::{Expr, Memory, Text, TextBuilder};
+use std::alloc::Global;
+
+/// Members of a chain or arguments of a call, joined.
+#[cycle(printing)]
+fn push_joined(
+    alloc: Global,
+    out: &mut TextBuilder,
+    members: &[Expr],
+    joint: &[u8],
+    tightness: u8,
+) -> Result<(), Memory>
+    ensures { OnOk result (out.new ≡ out.old ++ joined joint.now tightness (map spelling_at members.now)) }
+{
+    for (at, member) in members.iter().enumerate() {
+        if 0 < at {
+            out.push(joint)?;
+        }
+        push_expr(alloc, out, member, tightness)?;
+    }
+    Ok(())
+}
+
+/// A chain, in parentheses where its place binds tighter than `own`.
+#[cycle(printing)]
+fn push_chain(
+    alloc: Global,
+    out: &mut TextBuilder,
+    members: &[Expr],
+    joint: &[u8],
+    own: u8,
+    tightness: u8,
+) -> Result<(), Memory>
+    requires { own ≤ 2 }
+    ensures { OnOk result (out.new ≡ out.old ++ within (nat_lt own tightness) (joined joint.now (own + 1) (map spelling_at members.now))) }
+{
+    if tightness <= own {
+        return push_joined(alloc, out, members, joint, own + 1);
+    }
+    out.push(b"(")?;
+    push_joined(alloc, out, members, joint, own + 1)?;
+    out.push(b")")
+}
+
+/// A tree, at a place that binds so tight.
+#[cycle(printing)]
+fn push_expr(alloc: Global, out: &mut TextBuilder, expr: &Expr, tightness: u8) -> Result<(), Memory>
+    ensures { OnOk result (out.new ≡ out.old ++ spelling_at expr.now tightness) }
+{
+    match expr {
+        Expr::Lit(lit) => push_lit(alloc, out, lit),
+        Expr::Field(name) => out.push(name.bytes()),
+        Expr::Call(name, args) => {
+            out.push(name.bytes())?;
+            out.push(b"(")?;
+            push_joined(alloc, out, args.as_slice(), b", ", 0)?;
+            out.push(b")")
+        }
+        Expr::At(of, at) => {
+            push_expr(alloc, out, of.get(), 3)?;
+            out.push(b"[")?;
+            push_signed(alloc, out, *at)?;
+            out.push(b"]")
+        }
+        Expr::Key(of, key) => {
+            push_expr(alloc, out, of.get(), 3)?;
+            out.push(b"[")?;
+            push_quoted(out, key.bytes())?;
+            out.push(b"]")
+        }
+        Expr::Each(of) => {
+            push_expr(alloc, out, of.get(), 3)?;
+            out.push(b"[*]")
+        }
+        Expr::Test(of, test) => {
+            push_expr(alloc, out, of.get(), 3)?;
+            out.push(b" ")?;
+            push_test(alloc, out, test)
+        }
+        Expr::Not(of) => {
+            out.push(b"not ")?;
+            push_expr(alloc, out, of.get(), 3)
+        }
+        Expr::And(members) => push_chain(alloc, out, members.as_slice(), b" and ", 2, tightness),
+        Expr::Xor(members) => push_chain(alloc, out, members.as_slice(), b" xor ", 1, tightness),
+        Expr::Or(members) => push_chain(alloc, out, members.as_slice(), b" or ", 0, tightness),
+    }
+}
+
+/// The one spelling of a tree.
+pub fn print(alloc: Global, expr: &Expr) -> Result<Text, Memory>
+    ensures { IfOk result (λ text. text ≡ spelling expr.now) }
+{
+    let mut out = TextBuilder::new(alloc);
+    push_expr(alloc, &mut out, expr, 0)?;
+    Ok(out.into_text())
+}

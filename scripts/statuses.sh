@@ -1,0 +1,19 @@
+#!/usr/bin/env bash
+# Shows the statuses of the built program that a shell can bring about, and checks each.
+# usage: scripts/statuses.sh
+set -u
+cd "$(dirname "$0")/.." || exit 1
+program=crates/edge/out/edge
+[ -x "$program" ] || { echo "statuses: the program isn't built; left out"; exit 0; }
+failed=0
+show() { # WANTED STATUS, what is shown; the run's status is in $?
+  local got=$1 wanted=$2 what=$3
+  if [ "$got" = "$wanted" ]; then echo "status $got: $what"; else echo "status $got, wanted $wanted: $what"; failed=1; fi
+}
+"$program" replay <examples/first.jsonl; show $? 0 "two good lines"
+printf '{x\n' | "$program" replay; show $? 3 "a line that is no item"
+"$program" </dev/null; show $? 2 "no words"
+"$program" replay extra </dev/null; show $? 2 "the words 'replay extra'"
+"$program" replay <examples; show $? 5 "an input that is a folder"
+if [ -e /dev/full ]; then "$program" replay <examples/first.jsonl >/dev/full; show $? 6 "an output that is full"; fi
+exit $failed
