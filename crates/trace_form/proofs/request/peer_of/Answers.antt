@@ -1,4 +1,4 @@
-use Rattle.std.proofs.Common.{◌≡◌, sym, ◌∙◌, subst}
+use Rattle.std.proofs.Common.{sym, ◌∙◌, subst}
 use Rattle.std.specs.Net.Grammar.{IsIpv4Text}
 use Rattle.edge_base.specs.declared.address.Addr.TheVariants as addr
 use Rattle.std.proofs.lemmas.Option.{same_Some}
