@@ -1,4 +1,4 @@
-use Rattle.std.proofs.Common.{◌≡◌, sym, ◌∙◌, subst}
+use Rattle.std.proofs.Common.{sym, ◌∙◌, subst}
 use Rattle.std.specs.Net.Grammar.{IsIpv4Text}
 use Rattle.edge_base.specs.Address.{IsAddrText}
 use Rattle.edge_base.proofs.AddressLemmas.{IsAddrText-ipv4}
