@@ -1,5 +1,5 @@
 -- Takes and pieces by turns: a first cut at a piece loses no match, and gives the first takes.
-use Rattle.std.proofs.Common.{◌≡◌, ℕ, ◌+◌, ◌-◌, ◌<◌, ◌≤◌, ◌↔◌, Bool, List, [], ◌∷◌, ◌++◌, length, take, drop, refl, sym, ap, subst, ◌∙◌, arith, inl, inr, ⊎_elim, length-take-le, append_assoc, take-append-drop, drop-drop}
+use Rattle.std.proofs.Common.{◌≡◌, ℕ, ◌+◌, ◌-◌, ◌<◌, ◌≤◌, ◌↔◌, Bool, List, [], ◌∷◌, ◌++◌, length, take, drop, refl, sym, ap, ap₂, subst, ◌∙◌, arith, inl, inr, ⊎_elim, length-take-le, append_assoc, take-append-drop, drop-drop}
 use Rattle.std.proofs.Common.{suc, get_or, get_or-take, Option, None, Some, Bor, IsTrue, MatchOption, Result, Ok, Err, IfOk}
 use Rattle.std.specs.Prelude.{map, is_some}
 use Rattle.std.proofs.Math.Numerals.{add-one}
@@ -7,7 +7,7 @@ use Rattle.std.proofs.Math.Seq.{drop-cons, drop-length}
 use Rattle.std.proofs.lemmas.Bool.{cases_lt, false≢true}
 use Rattle.text_match.specs.Cuts.{IsNowhere, IsFirstCut, HasTurns, AreFirstTurns}
 use Rattle.text_match.specs.Wildcards.{IsCut, AreTurns, IsMatched, IsNoLater, First}
-use Rattle.text_match.proofs.CutLemmas.{cut-length, cut-after}
+use Rattle.text_match.proofs.CutLemmas.{take_front, cut-length, cut-after}
 
 -- what another cut leaves is the end of what the first cut leaves
 pub record Gap (before after others more : List ℕ) : Type 0 where
@@ -189,3 +189,44 @@ module _ (strict : Bool) (first : List ℕ) (pieces : List (List ℕ)) (text : L
   pub front_ok : {E : Type 0} (rest : List ℕ) (result : Result (Option (List (List ℕ))) E) → IsCut strict first text [] rest → IfOk result (λ found. MatchOption found (¬ (HasTurns strict pieces rest)) (λ takes. AreFirstTurns strict pieces rest takes)) → IfOk result (λ found. MatchOption found (¬ (IsMatched (first ∷ pieces) strict text)) (λ takes. First (first ∷ pieces) strict text takes))
   front_ok rest (Ok found) cut known = front_takes rest found cut known
   front_ok rest (Err error) cut known = tt
+
+-- lists of lengths neither of which is after the other are equal
+same_lengths : (xs ys : List ℕ) → IsNoLater xs ys → IsNoLater ys xs → xs ≡ ys
+same_lengths [] [] first second = refl
+same_lengths [] (y ∷ ys) first second = absurd second
+same_lengths (x ∷ xs) [] first second = absurd first
+same_lengths (x ∷ xs) (y ∷ ys) first second =
+    ⊎_elim
+    (λ (less : x < y). ⊎_elim (λ (more : y < x). absurd (omega arith)) (λ (both : (y ≡ x) × IsNoLater ys xs). let same = both.0 in absurd (omega arith)) second)
+    (λ (these : (x ≡ y) × IsNoLater xs ys). ⊎_elim
+    (λ (more : y < x). let same = these.0 in absurd (omega arith))
+    (λ (those : (y ≡ x) × IsNoLater ys xs). ap₂ (λ n ns. n ∷ ns) these.0 (same_lengths xs ys these.1 those.1)) second)
+    first
+
+-- the lengths of takes and the text decide the takes
+same_takes : (strict : Bool) (pieces : List (List ℕ)) (text : List ℕ) (xs ys : List (List ℕ)) → AreTurns strict pieces text xs → AreTurns strict pieces text ys → map length xs ≡ map length ys → xs ≡ ys
+same_takes strict [] text [] [] first second same = refl
+same_takes strict [] text [] (y ∷ ys) first second same = absurd second
+same_takes strict [] text (x ∷ xs) ys first second same = absurd first
+same_takes strict (piece ∷ pieces) text [] ys first second same = absurd first
+same_takes strict (piece ∷ pieces) text (x ∷ xs) [] first second same = absurd second
+same_takes strict (piece ∷ pieces) text (x ∷ xs) (y ∷ ys) first second same =
+    let size : length x ≡ length y = cc in
+    let sizes : map length xs ≡ map length ys = cc in
+    let taken : x ≡ y =
+    sym (take_front x (first.1.found ++ first.0) text first.1.is_text)
+    ∙ ap (λ n. take n text) size
+    ∙ take_front y (second.1.found ++ second.0) text second.1.is_text in
+    let rest : second.0 ≡ first.0 =
+    cut-after strict piece text y second.0 second.1
+    ∙ ap (λ n. drop (n + length piece) text) (sym size)
+    ∙ sym (cut-after strict piece text x first.0 first.1) in
+    ap₂ (λ t ts. t ∷ ts) taken (same_takes strict pieces first.0 xs ys first.2 (subst (λ end. AreTurns strict pieces end ys) rest second.2) sizes)
+
+-- a wildcard and a text have one list of first takes at most
+pub first_is_unique : (pieces : List (List ℕ)) (strict : Bool) (text : List ℕ) (xs ys : List (List ℕ)) → First pieces strict text xs → First pieces strict text ys → xs ≡ ys
+first_is_unique [] strict text xs ys first second = absurd first.is_match
+first_is_unique (piece ∷ pieces) strict text xs ys first second =
+    same_takes strict pieces first.is_match.0 xs ys first.is_match.2
+    (behind strict piece pieces text first.is_match.0 second.is_match.0 ys first.is_match.1 second.is_match.1 second.is_match.2)
+    (same_lengths (map length xs) (map length ys) (first.is_least ys second.is_match) (second.is_least xs first.is_match))

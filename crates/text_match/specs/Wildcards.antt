@@ -65,3 +65,9 @@ IsNoLater (n ∷ lengths) (m ∷ others) = (n < m) ⊎ ((n ≡ m) × IsNoLater l
 pub record First (pieces : List (List ℕ)) (strict : Bool) (text : List ℕ) (takes : List (List ℕ)) : Type 0 where
   pub is_match : Match pieces strict text takes
   pub is_least : (others : List (List ℕ)) → Match pieces strict text others → IsNoLater (map length takes) (map length others)
+
+-- a wildcard has no more than one list of first takes in a text
+abbrev pub FirstTakesAreUnique : Type 0
+FirstTakesAreUnique =
+    (pieces : List (List ℕ)) (strict : Bool) (text : List ℕ) (takes others : List (List ℕ)) →
+    First pieces strict text takes → First pieces strict text others → takes ≡ others

@@ -15,4 +15,4 @@ pub use pattern::{Pattern, PatternFault};
 pub use reading::WildFault;
 pub use replacement::fill;
 pub use sharing::{patterns_are_shared, wildcards_are_shared};
-pub use wildcard::Wild;
+pub use wildcard::{Wild, first_takes_are_unique};

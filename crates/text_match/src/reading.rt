@@ -68,8 +68,8 @@ fn first_mark(pattern: &[u8]) -> Option<(Mark, &[u8])>
     }
 }
 
-#[tactic(auto, unfolding(crate::specs::Wildcards::pieces_of), using(crate::proofs::Pieces::after_start_more, crate::proofs::Pieces::after_start_star))]
 /// The first piece of a pattern without a fault, and what stands after its star.
+#[tactic(auto, unfolding(crate::specs::Wildcards::pieces_of), using(crate::proofs::Pieces::after_start_more, crate::proofs::Pieces::after_start_star))]
 pub(crate) fn read_piece(alloc: Global, pattern: &[u8]) -> Result<(Text, Option<&[u8]>), Memory>
     ensures pieces { IfOk result (λ read. MatchOption read.1 (pieces_of pattern.now ≡ read.0 ∷ []) (λ rest. pieces_of pattern.now ≡ read.0 ∷ pieces_of rest.now)) }
     ensures shorter { IfOk result (λ read. IfSome read.1 (λ rest. length rest.now < length pattern.now)) }

@@ -37,8 +37,8 @@ fn part_at(parts: &[Text], place: usize) -> &[u8]
     }
 }
 
-#[tactic(auto, unfolding(crate::specs::Replacement::filled))]
 /// A replacement with each reference written as its part: a group of a match, or a take of a wildcard.
+#[tactic(auto, unfolding(crate::specs::Replacement::filled))]
 pub fn fill(alloc: Global, replacement: &[u8], parts: &[Text]) -> Result<Text, Memory>
     ensures { IfOk result (λ text. text ≡ filled parts.now replacement.now) }
 {

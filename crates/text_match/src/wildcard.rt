@@ -2,7 +2,7 @@
 ghost use Rattle.std.specs.Prelude.{◌≡◌, ◌↔◌, ◌∷◌, [], List, ℕ, None, Some, IfOk, OnOk, IsErrOf, IsTrue, MatchOption};
 ghost use Rattle.text_match.specs.Cuts.{HasTurns, AreFirstTurns};
 ghost use Rattle.text_match.specs.Marks.{pieces_left};
-ghost use Rattle.text_match.specs.Wildcards.{fault_of, pieces_of, Match, IsMatched, First};
+ghost use Rattle.text_match.specs.Wildcards.{fault_of, pieces_of, IsMatched, First, FirstTakesAreUnique};
 
 use crate::cutting::{after_front, before_end, first_cut};
 use crate::reading::{WildFault, first_fault, read_piece};
@@ -135,3 +135,8 @@ impl Wild {
         }
     }
 }
+
+/// A law: what `takes` gives is decided by the wildcard and the text.
+pub fn first_takes_are_unique()
+    ensures { FirstTakesAreUnique }
+{}
