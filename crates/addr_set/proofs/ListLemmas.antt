@@ -1,10 +1,8 @@
 -- The texts before a place, against the items read of them.
-use Rattle.std.proofs.Common.{◌≡◌, ℕ, zero, suc, ◌+◌, ◌<◌, ◌≤◌, List, [], ◌∷◌, ◌++◌, length, get_or, take, refl, sym, ◌∙◌, ap, subst, arith}
+use Rattle.std.proofs.Common.{◌≡◌, ℕ, zero, suc, ◌+◌, ◌<◌, ◌≤◌, List, [], ◌∷◌, ◌++◌, length, get_or, take, ◌∙◌, subst, arith}
 use Rattle.std.specs.List.{AllZip, AllWithin}
 use Rattle.std.proofs.lemmas.List.{take_more, get_or_default}
-use Rattle.std.proofs.lemmas.List.Elements.{All-push}
 use Rattle.edge_base.specs.declared.expression.Item.{Item}
-use Rattle.addr_set.specs.Sets.{IsAddrItem}
 use Rattle.addr_set.specs.ItemTexts.{IsGoodText, IsFirstFault}
 
 module _ {A B : Type 0} (R : A → B → Type 0) where

@@ -1,5 +1,5 @@
 -- Which addresses the items of a list hold.
-use Rattle.std.specs.Prelude.{◌≡◌, ℕ, ◌-◌, ◌/◌, ◌^◌, ◌≤◌, Bool, false, ◌&&◌, nat_le, ◌==◌, List}
+use Rattle.std.specs.Prelude.{ℕ, ◌-◌, ◌/◌, ◌^◌, ◌≤◌, Bool, false, ◌&&◌, nat_le, ◌==◌, List}
 use Rattle.std.specs.List.{list_any}
 use Rattle.edge_base.specs.declared.address.Addr.{Addr}
 use Rattle.edge_base.specs.declared.address.Addr.TheVariants as addr

@@ -1,5 +1,5 @@
 -- The interval of one item.
-use Rattle.std.specs.Prelude.{ℕ, Bool, false}
+use Rattle.std.specs.Prelude.{Bool, false}
 use Rattle.edge_base.specs.declared.address.Addr.{Addr}
 use Rattle.edge_base.specs.declared.address.Addr.TheVariants as addr
 use Rattle.addr_set.specs.declared.spans.Span.{Span}

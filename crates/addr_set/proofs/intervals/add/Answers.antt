@@ -1,4 +1,4 @@
-use Rattle.std.proofs.Common.{◌≡◌, ◌-◌, ◌<◌, ◌≤◌, ◌++◌, [], ◌∷◌, List, sym, subst, ◌∙◌, ap, arith}
+use Rattle.std.proofs.Common.{◌≡◌, ◌-◌, ◌<◌, ◌≤◌, ◌++◌, [], ◌∷◌, List, sym, ◌∙◌, ap, arith}
 use Rattle.std.specs.List.{All}
 use Rattle.addr_set.specs.declared.intervals.Interval.{Interval}
 use Rattle.addr_set.specs.Intervals.{AreApart}

@@ -1,4 +1,4 @@
-use Rattle.std.proofs.Common.{sym, subst, ◌∙◌, arith}
+use Rattle.std.proofs.Common.{sym, ◌∙◌, arith}
 use Rattle.std.proofs.lemmas.Bool.{le-ltb}
 use Rattle.addr_set.proofs.IntervalLemmas.{has-none, has-last}
 use Rattle.addr_set.proofs.intervals.has.Goals as goal

@@ -1,4 +1,3 @@
-use Rattle.std.proofs.Common.{◌≡◌, ◌+◌, drop, sym}
 use Rattle.std.proofs.lemmas.List.{take_rest}
 use Rattle.addr_set.proofs.ReadingLemmas.{Reads-range, Reads-block, IsNoItem-alone}
 use Rattle.addr_set.proofs.reading.item_of.Goals as goal

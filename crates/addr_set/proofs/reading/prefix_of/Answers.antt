@@ -1,4 +1,4 @@
-use Rattle.std.proofs.Common.{◌≡◌, ◌<◌, get_or, arith}
+use Rattle.std.proofs.Common.{get_or, arith}
 use Rattle.std.proofs.lemmas.Int.Digits.{digits_more, digits_value_more}
 use Rattle.addr_set.proofs.PrefixLemmas.{AllDigits-at, digit_value-decimal, digit_value-other}
 use Rattle.addr_set.proofs.reading.prefix_of.Goals as goal

@@ -1,11 +1,10 @@
-use Rattle.std.proofs.Common.{◌≡◌, List, ℕ, Result, Ok, Err, sym, subst}
+use Rattle.std.proofs.Common.{List, ℕ, Result, Ok, Err}
 use Rattle.edge_base.specs.declared.address.Addr.{Addr}
 use Rattle.edge_base.specs.declared.expression.Item.{Item}
 use Rattle.edge_base.specs.Address.{IsAddrText}
 use Rattle.edge_base.proofs.AddressLemmas.{IsAddrText-unique}
 use Rattle.addr_set.specs.declared.reading.Flaw.{Flaw}
 use Rattle.addr_set.specs.declared.reading.Flaw.TheVariants as flaw
-use Rattle.addr_set.specs.ItemTexts.{IsOneFamily}
 use Rattle.addr_set.specs.Readings.{ReadsJoined, ReadsRange}
 use Rattle.addr_set.proofs.reading.range_of.Goals as goal
 
