@@ -260,11 +260,12 @@ bare_begun ts = record { all = omega arith; ends = refl; place = omega arith }
 
 pub bare_goes_on : (ts rest : List Terminal) (t : Terminal) (at : ℕ) (s next : State) → GoingBare ts (t ∷ rest) at s → step s t ≡ Some next → GoingBare ts rest (at + 1) (bared next)
 bare_goes_on ts rest t at s next g q = record {
-    all = g.all ∙ omega arith;
-    ends = sym (outcome_alike rest next (bared next) (bared_alike next)) ∙ sym (ap (λ o. is_some (option_and_then (λ n. outcome rest n) o)) q) ∙ g.ends;
-    place = (let p : counted (λ n. taken rest n) (step s t) ≡ suc (taken rest next) = ap (λ o. counted (λ n. taken rest n) o) q in
-        let same : taken rest next ≡ taken rest (bared next) = taken_alike rest next (bared next) (bared_alike next) in
-        omega (arith, g.place)) }
+  all = g.all ∙ omega arith;
+  ends = sym (outcome_alike rest next (bared next) (bared_alike next)) ∙ sym (ap (λ o. is_some (option_and_then (λ n. outcome rest n) o)) q) ∙ g.ends;
+  place = (let p : counted (λ n. taken rest n) (step s t) ≡ suc (taken rest next) = ap (λ o. counted (λ n. taken rest n) o) q in
+      let same : taken rest next ≡ taken rest (bared next) = taken_alike rest next (bared next) (bared_alike next) in
+      omega (arith, g.place));
+}
 
 none_of : (o : Option Expr) → is_some o ≡ false → o ≡ None
 none_of None h = refl

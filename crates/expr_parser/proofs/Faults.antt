@@ -71,17 +71,19 @@ close_on (opened.Call n es) e f below c = c.path (expr.Call n (es ++ e ∷ [])) 
 
 closes : (below : List Level) → Closes below
 closes [] = record {
-    done = λ e f. (chain_of f e, refl);
-    path = λ e f. (chain_of f e, refl);
-    truth = λ b f. (chain_of f (expr.Lit (lit.Bool b)), refl);
-    name = λ n f. (chain_of f (expr.Field n), refl);
-    literal = λ l f. (expr.Lit l, refl) }
+  done = λ e f. (chain_of f e, refl);
+  path = λ e f. (chain_of f e, refl);
+  truth = λ b f. (chain_of f (expr.Lit (lit.Bool b)), refl);
+  name = λ n f. (chain_of f (expr.Field n), refl);
+  literal = λ l f. (expr.Lit l, refl);
+}
 closes (l ∷ below) = record {
-    done = λ e f. close_on l.opened (chain_of f e) l.outer below (closes below);
-    path = λ e f. close_on l.opened (chain_of f e) l.outer below (closes below);
-    truth = λ b f. close_on l.opened (chain_of f (expr.Lit (lit.Bool b))) l.outer below (closes below);
-    name = λ n f. close_on l.opened (chain_of f (expr.Field n)) l.outer below (closes below);
-    literal = λ v f. close_on l.opened (expr.Lit v) l.outer below (closes below) }
+  done = λ e f. close_on l.opened (chain_of f e) l.outer below (closes below);
+  path = λ e f. close_on l.opened (chain_of f e) l.outer below (closes below);
+  truth = λ b f. close_on l.opened (chain_of f (expr.Lit (lit.Bool b))) l.outer below (closes below);
+  name = λ n f. close_on l.opened (chain_of f (expr.Field n)) l.outer below (closes below);
+  literal = λ v f. close_on l.opened (expr.Lit v) l.outer below (closes below);
+}
 
 test_completes : (e : Expr) (k : Testing) (f : Frame) (below : List Level) → (r : Expr) × (outcome (test_wants k ++ closing below) (state (mode.Testing e k) f below) ≡ Some r)
 test_completes e (testing.Order o) f below = (closes below).done (expr.Test e (test.Order o (lit.Text []))) f
@@ -147,7 +149,8 @@ stops_at ts k h b = let p = derived_is_read b.2 in let q : outcome (take (k + 1)
 -- what isn't read has its fault at the terminal that is refused
 pub refused_is_fault : (ts : List Terminal) → outcome ts start ≡ None → IsFault ts (taken ts start)
 refused_is_fault ts q = record {
-    within = taken_within ts start;
-    begins = (let r = taken_begins ts start in (r.0, r.1, read_is_derived (take (taken ts start) ts ++ r.0) r.1 r.2));
-    stops = λ h. stops_at ts (taken ts start) (taken_refused ts start h);
-    none = λ e d. (let p = derived_is_read d in absurd cc) }
+  within = taken_within ts start;
+  begins = (let r = taken_begins ts start in (r.0, r.1, read_is_derived (take (taken ts start) ts ++ r.0) r.1 r.2));
+  stops = λ h. stops_at ts (taken ts start) (taken_refused ts start h);
+  none = λ e d. (let p = derived_is_read d in absurd cc);
+}

@@ -23,9 +23,10 @@ begun ts = record { all = omega arith; tree = refl; place = omega arith }
 
 pub goes_on : (ts rest : List Terminal) (t : Terminal) (at : ℕ) (s next : State) → Going ts (t ∷ rest) at s → step s t ≡ Some next → Going ts rest (at + 1) next
 goes_on ts rest t at s next g q = record {
-    all = g.all ∙ omega arith;
-    tree = sym (ap (λ o. option_and_then (λ n. outcome rest n) o) q) ∙ g.tree;
-    place = (let p : counted (λ n. taken rest n) (step s t) ≡ suc (taken rest next) = ap (λ o. counted (λ n. taken rest n) o) q in omega (arith, g.place)) }
+  all = g.all ∙ omega arith;
+  tree = sym (ap (λ o. option_and_then (λ n. outcome rest n) o) q) ∙ g.tree;
+  place = (let p : counted (λ n. taken rest n) (step s t) ≡ suc (taken rest next) = ap (λ o. counted (λ n. taken rest n) o) q in omega (arith, g.place));
+}
 
 pub refused_here : (ts rest : List Terminal) (t : Terminal) (at : ℕ) (s : State) → Going ts (t ∷ rest) at s → step s t ≡ None → IsFault ts at
 refused_here ts rest t at s g q =

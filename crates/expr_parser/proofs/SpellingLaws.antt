@@ -1,6 +1,6 @@
 -- How a tree is spelled, by its node.
-use Rattle.std.proofs.Common.{◌≡◌, ℕ, suc, ◌+◌, ◌<◌, ◌==◌, ◌||◌, cond, ℤ, List, [], ◌∷◌, ◌++◌, length, take, get_or, map, refl, ap, ◌∙◌, sym, nat_lt, append_assoc, append-nil}
-use Rattle.std.proofs.lemmas.List.{take_more}
+use Rattle.std.proofs.Common.{◌≡◌, ℕ, zero, suc, ◌+◌, ◌<◌, ◌≤◌, arith, ◌==◌, ◌||◌, cond, ℤ, List, [], ◌∷◌, ◌++◌, length, take, get_or, map, refl, ap, ◌∙◌, sym, nat_lt, append_assoc, append-nil}
+use Rattle.std.proofs.lemmas.List.{map-append, take_more}
 use Rattle.std.specs.Prelude.{codes}
 use Rattle.edge_base.specs.declared.expression.Item.{Item}
 use Rattle.edge_base.specs.declared.expression.Lit.{Lit}
@@ -73,8 +73,32 @@ abbrev pub joint_behind : List ℕ → List SpelledAt → List ℕ
 joint_behind joint [] = []
 joint_behind joint (s ∷ rest) = joint
 
-joined-push : (joint : List ℕ) (n : ℕ) (xs : List SpelledAt) (y : SpelledAt) → joined joint n (xs ++ y ∷ []) ≡ joined joint n xs ++ (joint_behind joint xs ++ y n)
+pub joined-push : (joint : List ℕ) (n : ℕ) (xs : List SpelledAt) (y : SpelledAt) → joined joint n (xs ++ y ∷ []) ≡ joined joint n xs ++ (joint_behind joint xs ++ y n)
 joined-push joint n [] y = refl
 joined-push joint n (x ∷ []) y = append_assoc (x n) joint (y n)
 joined-push joint n (x ∷ z ∷ xs) y =
     ap (λ rest. x n ++ joint ++ rest) (joined-push joint n (z ∷ xs) y) ∙ sym (append_assoc (x n ++ joint) (joined joint n (z ∷ xs)) (joint ++ y n))
+
+pub behind_none : (joint : List ℕ) (members : List Expr) (at : ℕ) → at ≤ 0 → joint_behind joint (map spelling_at (take at members)) ≡ []
+behind_none joint members zero h = refl
+behind_none joint members (suc at) h = absurd (omega arith)
+
+pub behind_some : (joint : List ℕ) (members : List Expr) (at : ℕ) → 0 < at → at < length members → joint_behind joint (map spelling_at (take at members)) ≡ joint
+behind_some joint [] at h q = absurd (omega arith)
+behind_some joint (m ∷ members) zero h q = absurd (omega arith)
+behind_some joint (m ∷ members) (suc at) h q = refl
+
+pub joined-take_more : (joint : List ℕ) (n : ℕ) (members : List Expr) (at : ℕ) (d : Expr) (begun out mid new : List ℕ) → at < length members → d ≡ get_or members at d
+    → out ≡ begun ++ joined joint n (map spelling_at (take at members))
+    → mid ≡ out ++ joint_behind joint (map spelling_at (take at members))
+    → new ≡ mid ++ spelling_at d n
+    → new ≡ begun ++ joined joint n (map spelling_at (take (at + 1) members))
+joined-take_more joint n members at d begun out mid new below same p q r =
+    let front : List SpelledAt = map spelling_at (take at members) in
+    let more : map spelling_at (take (at + 1) members) ≡ front ++ spelling_at d ∷ [] =
+    ap (λ v. map spelling_at v) (take_more members at d below) ∙ map-append spelling_at (take at members) (get_or members at d ∷ []) ∙ ap (λ e. front ++ spelling_at e ∷ []) (sym same) in
+    let regroup : ((begun ++ joined joint n front) ++ joint_behind joint front) ++ spelling_at d n ≡ begun ++ (joined joint n front ++ (joint_behind joint front ++ spelling_at d n)) = simp append_assoc in
+    r ∙ ap (λ v. v ++ spelling_at d n) (q ∙ ap (λ v. v ++ joint_behind joint front) p)
+    ∙ regroup
+    ∙ ap (λ v. begun ++ v) (sym (joined-push joint n front (spelling_at d)))
+    ∙ ap (λ v. begun ++ joined joint n v) (sym more)

@@ -149,13 +149,14 @@ pub record WholeIn (e : Expr) (below : List Level) (x : List Terminal) : Type 0 
 pub moved : (P Q : List Terminal → Type 0) (z : List Terminal) → ((y : List Terminal) → P y → Q (y ++ z)) → (f : Frame) (below : List Level) (x : List Terminal)
     → StandsAt P f below x → StandsAt Q f below (x ++ z)
 moved P Q z h f below x s = record {
-    outer = s.outer;
-    inner = s.inner;
-    part = s.part ++ z;
-    around = s.around;
-    spells = s.spells;
-    inside = h s.part s.inside;
-    spelled = rw s.spelled (simp append_assoc) }
+  outer = s.outer;
+  inner = s.inner;
+  part = s.part ++ z;
+  around = s.around;
+  spells = s.spells;
+  inside = h s.part s.inside;
+  spelled = rw s.spelled (simp append_assoc);
+}
 
 and_at : (x y : List Terminal) (us vs : List Expr) → IsAnd x us → x ≡ y → us ≡ vs → IsAnd y vs
 and_at x y us vs d p q = subst (λ z. IsAnd z vs) p (subst (λ z. IsAnd x z) q d)
@@ -186,33 +187,52 @@ chain_whole f x a u s d =
 -- a level goes on by `not`, and behind a unit by `and`, `xor` and `or`
 pub level_not : (f : Frame) (x : List Terminal) → Spells f x → Spells (frame f.ors f.xors f.ands (suc f.nots)) (x ++ terminal.Not ∷ [])
 level_not f x s = record {
-    c = s.c; w = s.w; j = s.j; n = s.n ++ terminal.Not ∷ [];
-    ors = s.ors; xors = s.xors; ands = s.ands;
-    nots = λ b v q. subst (λ z. IsUnit z (negate f.nots (expr.Not v))) (sym (append_assoc s.n (terminal.Not ∷ []) b)) (s.nots (terminal.Not ∷ b) (expr.Not v) (negated q));
-    spelled = rw s.spelled (simp append_assoc) }
+  c = s.c;
+  w = s.w;
+  j = s.j;
+  n = s.n ++ terminal.Not ∷ [];
+  ors = s.ors;
+  xors = s.xors;
+  ands = s.ands;
+  nots = λ b v q. subst (λ z. IsUnit z (negate f.nots (expr.Not v))) (sym (append_assoc s.n (terminal.Not ∷ []) b)) (s.nots (terminal.Not ∷ b) (expr.Not v) (negated q));
+  spelled = rw s.spelled (simp append_assoc);
+}
 
 pub level_and : (f : Frame) (x a : List Terminal) (u : Expr) → Spells f x → IsUnit a u → Spells (frame f.ors f.xors (f.ands ++ negate f.nots u ∷ []) 0) (x ++ (a ++ terminal.And ∷ []))
 level_and f x a u s d = record {
-    c = s.c; w = s.w; j = s.j ++ (s.n ++ (a ++ terminal.And ∷ [])); n = [];
-    ors = s.ors; xors = s.xors;
-    ands = λ b us q. and_at _ _ _ _ (s.ands ((s.n ++ a) ++ terminal.And ∷ b) (negate f.nots u ∷ us) (more_units (s.nots a u d) q)) (simp append_assoc) (sym (append_assoc f.ands (negate f.nots u ∷ []) us));
-    nots = λ b v q. q;
-    spelled = rw s.spelled (simp (append_assoc, append-nil)) }
+  c = s.c;
+  w = s.w;
+  j = s.j ++ (s.n ++ (a ++ terminal.And ∷ []));
+  n = [];
+  ors = s.ors;
+  xors = s.xors;
+  ands = λ b us q. and_at _ _ _ _ (s.ands ((s.n ++ a) ++ terminal.And ∷ b) (negate f.nots u ∷ us) (more_units (s.nots a u d) q)) (simp append_assoc) (sym (append_assoc f.ands (negate f.nots u ∷ []) us));
+  nots = λ b v q. q;
+  spelled = rw s.spelled (simp (append_assoc, append-nil));
+}
 
 pub level_xor : (f : Frame) (x a : List Terminal) (u : Expr) → Spells f x → IsUnit a u → Spells (frame f.ors (f.xors ++ and_of f u ∷ []) [] 0) (x ++ (a ++ terminal.Xor ∷ []))
 level_xor f x a u s d = record {
-    c = s.c; w = s.w ++ (s.j ++ (s.n ++ (a ++ terminal.Xor ∷ []))); j = []; n = [];
-    ors = s.ors;
-    xors = λ b us q. xor_at _ _ _ _ (s.xors ((s.j ++ (s.n ++ a)) ++ terminal.Xor ∷ b) (and_of f u ∷ us) (more_ands (and_whole f x a u s d) q)) (simp append_assoc) (sym (append_assoc f.xors (and_of f u ∷ []) us));
-    ands = λ b us q. q;
-    nots = λ b v q. q;
-    spelled = rw s.spelled (simp (append_assoc, append-nil)) }
+  c = s.c;
+  w = s.w ++ (s.j ++ (s.n ++ (a ++ terminal.Xor ∷ [])));
+  j = [];
+  n = [];
+  ors = s.ors;
+  xors = λ b us q. xor_at _ _ _ _ (s.xors ((s.j ++ (s.n ++ a)) ++ terminal.Xor ∷ b) (and_of f u ∷ us) (more_ands (and_whole f x a u s d) q)) (simp append_assoc) (sym (append_assoc f.xors (and_of f u ∷ []) us));
+  ands = λ b us q. q;
+  nots = λ b v q. q;
+  spelled = rw s.spelled (simp (append_assoc, append-nil));
+}
 
 pub level_or : (f : Frame) (x a : List Terminal) (u : Expr) → Spells f x → IsUnit a u → Spells (frame (f.ors ++ xor_of f u ∷ []) [] [] 0) (x ++ (a ++ terminal.Or ∷ []))
 level_or f x a u s d = record {
-    c = s.c ++ (s.w ++ (s.j ++ (s.n ++ (a ++ terminal.Or ∷ [])))); w = []; j = []; n = [];
-    ors = λ b us q. chain_at _ _ _ _ (s.ors ((s.w ++ (s.j ++ (s.n ++ a))) ++ terminal.Or ∷ b) (xor_of f u ∷ us) (more_xors (xor_whole f x a u s d) q)) (simp append_assoc) (sym (append_assoc f.ors (xor_of f u ∷ []) us));
-    xors = λ b us q. q;
-    ands = λ b us q. q;
-    nots = λ b v q. q;
-    spelled = rw s.spelled (simp (append_assoc, append-nil)) }
+  c = s.c ++ (s.w ++ (s.j ++ (s.n ++ (a ++ terminal.Or ∷ []))));
+  w = [];
+  j = [];
+  n = [];
+  ors = λ b us q. chain_at _ _ _ _ (s.ors ((s.w ++ (s.j ++ (s.n ++ a))) ++ terminal.Or ∷ b) (xor_of f u ∷ us) (more_xors (xor_whole f x a u s d) q)) (simp append_assoc) (sym (append_assoc f.ors (xor_of f u ∷ []) us));
+  xors = λ b us q. q;
+  ands = λ b us q. q;
+  nots = λ b v q. q;
+  spelled = rw s.spelled (simp (append_assoc, append-nil));
+}

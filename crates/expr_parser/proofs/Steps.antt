@@ -51,11 +51,23 @@ group_unit opening a e p c = rw (p, c.2) (group c.1)
 close_next : (o : Opened) (e : Expr) (f : Frame) (below : List Level) (outer inner opening a : List Terminal) → Around below outer → Spells f inner → Opening o opening → Completed o a e
     → StandsFor (closed e o f below) (((outer ++ (inner ++ opening)) ++ a) ++ terminal.Close ∷ [])
 close_next opened.Group e f below outer inner opening a around spells p c = record {
-    outer = outer; inner = inner; part = opening ++ (a ++ terminal.Close ∷ []);
-    around = around; spells = spells; inside = group_unit opening a e p c; spelled = simp append_assoc }
+  outer = outer;
+  inner = inner;
+  part = opening ++ (a ++ terminal.Close ∷ []);
+  around = around;
+  spells = spells;
+  inside = group_unit opening a e p c;
+  spelled = simp append_assoc;
+}
 close_next (opened.Call n args) e f below outer inner opening a around spells h c = record {
-    outer = outer; inner = inner; part = opening ++ (a ++ terminal.Close ∷ []);
-    around = around; spells = spells; inside = h a (e ∷ []) (one_argument c); spelled = simp append_assoc }
+  outer = outer;
+  inner = inner;
+  part = opening ++ (a ++ terminal.Close ∷ []);
+  around = around;
+  spells = spells;
+  inside = h a (e ∷ []) (one_argument c);
+  spelled = simp append_assoc;
+}
 
 -- `,` behind an argument
 path_at : (x y : List Terminal) (e f : Expr) → IsPath x e → x ≡ y → e ≡ f → IsPath y f
@@ -64,10 +76,19 @@ path_at x y e f d p q = subst (λ z. IsPath z f) p (subst (λ z. IsPath x z) q d
 further_next : (o : Opened) (e : Expr) (f : Frame) (below : List Level) (outer inner opening a : List Terminal) → Around below outer → Spells f inner → Opening o opening → Completed o a e
     → Next (further e o f below) (((outer ++ (inner ++ opening)) ++ a) ++ terminal.Comma ∷ [])
 further_next opened.Group e f below outer inner opening a around spells p c = tt
-further_next (opened.Call n args) e f below outer inner opening a around spells h c =
-    (refl, tt, (outer, inner, opening ++ (a ++ terminal.Comma ∷ []), around, spells,
+further_next (opened.Call n args) e f below outer inner opening a around spells h c = (
+  refl,
+  tt,
+  (
+    outer,
+    inner,
+    opening ++ (a ++ terminal.Comma ∷ []),
+    around,
+    spells,
     λ b more q. path_at _ _ _ _ (h (a ++ terminal.Comma ∷ b) (e ∷ more) (more_arguments c q)) (simp append_assoc) (ap (λ es. expr.Call n es) (sym (append_assoc args (e ∷ []) more))),
-    simp append_assoc))
+    simp append_assoc,
+  ),
+)
 
 whole_next : (t : Terminal) (e : Expr) (below : List Level) (x : List Terminal) → WholeIn e below x → Next (at_whole t e below) (x ++ t ∷ [])
 whole_next terminal.Close e [] x w = tt
@@ -81,8 +102,14 @@ whole_next t e below x w = tt
 -- a state that wants a unit, where nothing of it was read
 wanting : (f : Frame) (below : List Level) (x outer inner : List Terminal) → Around below outer → Spells f inner → x ≡ outer ++ inner → StandsAt (Inside mode.Want) f below x
 wanting f below x outer inner around spells p = record {
-    outer = outer; inner = inner; part = []; around = around; spells = spells; inside = refl;
-    spelled = p ∙ ap (λ v. outer ++ v) (sym (append-nil inner)) }
+  outer = outer;
+  inner = inner;
+  part = [];
+  around = around;
+  spells = spells;
+  inside = refl;
+  spelled = p ∙ ap (λ v. outer ++ v) (sym (append-nil inner));
+}
 
 behind : (x outer inner part z : List Terminal) → x ≡ outer ++ (inner ++ part) → x ++ z ≡ outer ++ (inner ++ (part ++ z))
 behind x outer inner part z p = rw p (simp append_assoc)
@@ -92,9 +119,12 @@ end_next terminal.And e f below x s = wanting _ below _ s.outer (s.inner ++ (s.p
 end_next terminal.Xor e f below x s = wanting _ below _ s.outer (s.inner ++ (s.part ++ terminal.Xor ∷ [])) s.around (level_xor f s.inner s.part e s.spells s.inside) (behind x s.outer s.inner s.part (terminal.Xor ∷ []) s.spelled)
 end_next terminal.Or e f below x s = wanting _ below _ s.outer (s.inner ++ (s.part ++ terminal.Or ∷ [])) s.around (level_or f s.inner s.part e s.spells s.inside) (behind x s.outer s.inner s.part (terminal.Or ∷ []) s.spelled)
 end_next t e f below x s = whole_next t (chain_of f e) below x (record {
-    outer = s.outer; a = s.inner ++ s.part; around = s.around;
-    completed = chain_completed below (s.inner ++ s.part) (f.ors ++ xor_of f e ∷ []) (chain_whole f s.inner s.part e s.spells s.inside);
-    spelled = s.spelled })
+  outer = s.outer;
+  a = s.inner ++ s.part;
+  around = s.around;
+  completed = chain_completed below (s.inner ++ s.part) (f.ors ++ xor_of f e ∷ []) (chain_whole f s.inner s.part e s.spells s.inside);
+  spelled = s.spelled;
+})
 
 -- an operand behind which a test may begin
 begins_test : (e : Expr) (k : Testing) (t : Terminal) (f : Frame) (below : List Level) (x : List Terminal) → TestFront k (t ∷ []) → StandsAt (λ y. IsOperand y e) f below x

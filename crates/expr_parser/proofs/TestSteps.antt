@@ -65,15 +65,19 @@ address_next terminal.To items a w z h p = (w, h, ap (λ v. v ++ terminal.To ∷
 address_next t items a w z h p = items_next t (items ++ item.One (lit.Addr a) ∷ []) (w ++ terminal.Address a ∷ []) z (h _ _ (literal_item address_literal)) p
 
 number_to_next : (t : Terminal) (items : List Item) (n : ℤ) (w z : List Terminal) → ItemFront items w → z ≡ terminal.In ∷ terminal.OpenItems ∷ (w ++ terminal.Number n ∷ terminal.To ∷ []) → TestNext (at_number_to t items n) (z ++ t ∷ [])
-number_to_next (terminal.Number m) items n w z h p =
-    (w ++ terminal.Number n ∷ terminal.To ∷ terminal.Number m ∷ [], h _ _ numbers_item,
-    ap (λ v. v ++ terminal.Number m ∷ []) p ∙ ap (λ v. terminal.In ∷ terminal.OpenItems ∷ v) (append_assoc w (terminal.Number n ∷ terminal.To ∷ []) (terminal.Number m ∷ [])))
+number_to_next (terminal.Number m) items n w z h p = (
+  w ++ terminal.Number n ∷ terminal.To ∷ terminal.Number m ∷ [],
+  h _ _ numbers_item,
+  ap (λ v. v ++ terminal.Number m ∷ []) p ∙ ap (λ v. terminal.In ∷ terminal.OpenItems ∷ v) (append_assoc w (terminal.Number n ∷ terminal.To ∷ []) (terminal.Number m ∷ [])),
+)
 number_to_next t items n w z h p = tt
 
 address_to_next : (t : Terminal) (items : List Item) (a : Addr) (w z : List Terminal) → ItemFront items w → z ≡ terminal.In ∷ terminal.OpenItems ∷ (w ++ terminal.Address a ∷ terminal.To ∷ []) → TestNext (at_address_to t items a) (z ++ t ∷ [])
-address_to_next (terminal.Address b) items a w z h p =
-    (w ++ terminal.Address a ∷ terminal.To ∷ terminal.Address b ∷ [], h _ _ addresses_item,
-    ap (λ v. v ++ terminal.Address b ∷ []) p ∙ ap (λ v. terminal.In ∷ terminal.OpenItems ∷ v) (append_assoc w (terminal.Address a ∷ terminal.To ∷ []) (terminal.Address b ∷ [])))
+address_to_next (terminal.Address b) items a w z h p = (
+  w ++ terminal.Address a ∷ terminal.To ∷ terminal.Address b ∷ [],
+  h _ _ addresses_item,
+  ap (λ v. v ++ terminal.Address b ∷ []) p ∙ ap (λ v. terminal.In ∷ terminal.OpenItems ∷ v) (append_assoc w (terminal.Address a ∷ terminal.To ∷ []) (terminal.Address b ∷ [])),
+)
 address_to_next t items a w z h p = tt
 
 pub test_next : (k : Testing) (t : Terminal) (z : List Terminal) → TestFront k z → TestNext (test_step k t) (z ++ t ∷ [])

@@ -35,6 +35,7 @@ impl From<Memory> for ParseFault {
 }
 
 const MAX_BYTES: usize = 4096;
+
 const MAX_NESTING: usize = 32;
 
 /// The first byte of the token with this number, or the text's length.

@@ -21,3 +21,6 @@ mod texts;
 pub use grammar::{ParseFault, answers_are_unique, parse};
 pub use printer::print;
 pub use reading::{derivations_are_unique, faults_are_unique};
+
+#[cfg(test)]
+mod tests;

@@ -106,12 +106,7 @@ fn at_index(
     }))
 }
 
-fn at_index_end(
-    terminal: Terminal,
-    path: Expr,
-    top: Frame,
-    below: Stack<Level>,
-) -> Option<State>
+fn at_index_end(terminal: Terminal, path: Expr, top: Frame, below: Stack<Level>) -> Option<State>
     ensures { result ≡ at_index_end terminal path top below }
 {
     match terminal {
@@ -166,7 +161,9 @@ pub fn step(alloc: Global, state: State, terminal: Terminal) -> Result<Option<St
         Mode::Truth(truth) => at_operand(alloc, terminal, Expr::Lit(Lit::Bool(truth)), top, below),
         Mode::Index(path) => at_index(alloc, terminal, path, top, below),
         Mode::IndexEnd(path) => Ok(at_index_end(terminal, path, top, below)),
-        Mode::Testing(operand, testing) => at_testing(alloc, terminal, operand, testing, top, below),
+        Mode::Testing(operand, testing) => at_testing(
+            alloc, terminal, operand, testing, top, below,
+        ),
         Mode::Done(unit) => at_end(alloc, terminal, unit, top, below),
     }
 }

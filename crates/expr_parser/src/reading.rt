@@ -90,11 +90,9 @@ pub fn fault_of(alloc: Global, terminals: Vec<Terminal>) -> Result<Option<usize>
 /// The grammar gives no terminals two trees.
 pub fn derivations_are_unique()
     ensures { DeriveAtMostOne }
-{
-}
+{}
 
 /// Terminals go wrong at one place.
 pub fn faults_are_unique()
     ensures { HaveOneFault }
-{
-}
+{}

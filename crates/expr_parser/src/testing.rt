@@ -187,7 +187,11 @@ fn at_address_to(
 }
 
 /// What a test under way becomes by the next terminal, or None where it can't go on so.
-pub fn test_step(alloc: Global, testing: Testing, terminal: Terminal) -> Result<Option<Tested>, Memory>
+pub fn test_step(
+    alloc: Global,
+    testing: Testing,
+    terminal: Terminal,
+) -> Result<Option<Tested>, Memory>
     ensures { IfOk result (λ next. next ≡ test_step testing terminal) }
 {
     match testing {

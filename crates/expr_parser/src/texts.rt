@@ -99,8 +99,9 @@ pub fn raw_text_of(alloc: Global, text: &[u8]) -> Result<Option<Text>, Memory>
 fn are_name_bytes(text: &[u8]) -> bool
     ensures { result ≡ list_all is_name_byte text.now }
 {
-    text.iter()
-        .all(|&byte| b'a' <= byte && byte <= b'z' || byte == b'_' || b'0' <= byte && byte <= b'9')
+    text.iter().all(|&byte| b'a' <= byte && byte <= b'z'
+        || byte == b'_'
+        || b'0' <= byte && byte <= b'9')
 }
 
 /// The list that a text names.

@@ -7,6 +7,7 @@ use Rattle.expr_parser.proofs.numbers.value_up_to.Given as goal
 -- the digits that are left follow those of the value so far
 abbrev pub invariant-loop-digit : goal.invariant-loop-digit
 invariant-loop-digit l = record {
-    few : l.value ≤ l.most;
-    rest : list_all is_digit (drop l.digit-index l.digits) ≡ true;
-    whole : digits_value_after 10 l.value (drop l.digit-index l.digits) ≡ digits_value 10 l.digits }
+  few : l.value ≤ l.most;
+  rest : list_all is_digit (drop l.digit-index l.digits) ≡ true;
+  whole : digits_value_after 10 l.value (drop l.digit-index l.digits) ≡ digits_value 10 l.digits;
+}

@@ -16,8 +16,9 @@ loop-terminal-preserved c =
     let steps : into_iter_items loop.terminal-iterator ≡ c.in-Some.terminal ∷ into_iter_items c.next.new.self = c.in-Some.ensures.steps.0 in
     let going = rw steps at loop.invariant.going in
     let next = bare_goes_on _ _ _ loop.at loop.state c.in-Some-2.next going (sym c.in_ok-next.ensures ∙ c.in-Some-2.is) in record {
-    going = rw c.bared-state.ensures next;
-    left = (let was = loop.invariant.left in let gone = c.in-Some.ensures.steps.1 in let short = ap length steps in omega arith) }
+      going = rw c.bared-state.ensures next;
+      left = (let was = loop.invariant.left in let gone = c.in-Some.ensures.steps.1 in let short = ap length steps in omega arith);
+    }
 
 -- a terminal is refused
 pub returns-in_default : goal.returns-in_default
