@@ -40,7 +40,14 @@ fn main(rt: HostRuntime) -> ExitCode {
         Err(_) => edge_quiet(alloc, &[], &mut input, &mut out, &mut said, hashers),
         Ok(words) => match borrowed(alloc, words.as_slice()) {
             Err(_) => edge_quiet(alloc, &[], &mut input, &mut out, &mut said, hashers),
-            Ok(words) => edge_quiet(alloc, words.as_slice(), &mut input, &mut out, &mut said, hashers),
+            Ok(words) => edge_quiet(
+                alloc,
+                words.as_slice(),
+                &mut input,
+                &mut out,
+                &mut said,
+                hashers,
+            ),
         },
     };
     ExitCode::from(status.code())

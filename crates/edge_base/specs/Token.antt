@@ -62,8 +62,8 @@ abbrev pub number_of : List ℕ → Option ℤ
 number_of [] = None
 number_of (byte ∷ text) =
     cond (bytes_eq (byte ∷ text) (codes "0")) (Some (pos 0))
-        (cond (byte == 45) (option_map (λ size. neg_ℤ (pos size)) (size_of (2 ^ 63) text))
-            (option_map pos (size_of (2 ^ 63 - 1) (byte ∷ text))))
+    (cond (byte == 45) (option_map (λ size. neg_ℤ (pos size)) (size_of (2 ^ 63) text))
+    (option_map pos (size_of (2 ^ 63 - 1) (byte ∷ text))))
 
 -- the bits of a block: `0`, or one to three digits that don't begin with `0`
 abbrev pub bits_of : List ℕ → Option ℕ
@@ -81,7 +81,7 @@ quoted_of escaped [] = None
 quoted_of true (byte ∷ text) = cond (byte == 34 || byte == 92) (option_map (λ bytes. byte ∷ bytes) (quoted_of false text)) None
 quoted_of false (byte ∷ text) =
     cond (byte == 34) (cond (length text == 0) (Some []) None)
-        (cond (byte == 92) (quoted_of true text) (option_map (λ bytes. byte ∷ bytes) (quoted_of false text)))
+    (cond (byte == 92) (quoted_of true text) (option_map (λ bytes. byte ∷ bytes) (quoted_of false text)))
 
 -- the bytes that a text in `"` stands for
 abbrev pub text_of : List ℕ → Option (List ℕ)
@@ -93,7 +93,7 @@ abbrev pub raw_bytes_of : ℕ → List ℕ → Option (List ℕ)
 raw_bytes_of marks [] = None
 raw_bytes_of marks (byte ∷ text) =
     cond (byte == 34 && starts_with nat_eq text (replicate marks 35)) (cond (length text == marks) (Some []) None)
-        (option_map (λ bytes. byte ∷ bytes) (raw_bytes_of marks text))
+    (option_map (λ bytes. byte ∷ bytes) (raw_bytes_of marks text))
 
 -- how many marks `#` stand at the front
 abbrev pub marks_of : List ℕ → ℕ
@@ -104,7 +104,7 @@ abbrev pub raw_text_of : List ℕ → Option (List ℕ)
 raw_text_of [] = None
 raw_text_of (byte ∷ text) =
     cond (byte == 114 && nat_le (marks_of text) 8 && slice_index text (marks_of text) == 34)
-        (raw_bytes_of (marks_of text) (drop (marks_of text + 1) text)) None
+    (raw_bytes_of (marks_of text) (drop (marks_of text + 1) text)) None
 
 -- the list that `$` and one or more lower-case letters, digits or `_` name
 abbrev pub list_name_of : List ℕ → Option (List ℕ)

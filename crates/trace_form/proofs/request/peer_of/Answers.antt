@@ -18,6 +18,8 @@ returns-in-Err c (addr.V6 n) told = told
 -- the member's text is the one that was read, and writes this V4 address
 pub returns-in-Ok : goal.returns-in-Ok
 returns-in-Ok c =
-    let text = c.in_ok-text.text.now in
-    (text, sym c.in_ok-text.ensures,
-        subst (λ n. IsAddrText text (addr.V4 n)) (sym c.to_bits.ensures) (IsAddrText-ipv4 text c.in-Ok.addr c.in-Ok.ensures))
+    let text = c.in_ok-text.text.now in (
+      text,
+      sym c.in_ok-text.ensures,
+      subst (λ n. IsAddrText text (addr.V4 n)) (sym c.to_bits.ensures) (IsAddrText-ipv4 text c.in-Ok.addr c.in-Ok.ensures),
+    )
