@@ -33,18 +33,34 @@ for _ in range(n):
 P
 
 python3 - "$edge" "$plain" "$here/out" "$lines" <<'P'
-import os, resource, statistics, subprocess, sys, time
+import os, statistics, subprocess, sys, time
 edge, plain, folder, lines = sys.argv[1], sys.argv[2], sys.argv[3], int(sys.argv[4])
 
 def run(name, words):
-    before = resource.getrusage(resource.RUSAGE_CHILDREN)
     with open(folder + '/input.jsonl', 'rb') as given, open(folder + '/' + name + '.out', 'wb') as out:
         begun = time.perf_counter()
         child = subprocess.Popen(words, stdin=given, stdout=out)
-        _, status, used = os.wait4(child.pid, 0)
-        child.returncode = os.waitstatus_to_exitcode(status)
+        peak = 0
+        while True:
+            # The peak is read while the program runs: what wait4 tells of it includes the parent's memory before exec.
+            peak = max(peak, peak_of(child.pid))
+            done, status, used = os.wait4(child.pid, os.WNOHANG)
+            if done:
+                break
+            time.sleep(0.002)
         took = time.perf_counter() - begun
-    return took, used.ru_utime + used.ru_stime, used.ru_maxrss, child.returncode
+        child.returncode = os.waitstatus_to_exitcode(status)
+    return took, used.ru_utime + used.ru_stime, peak, child.returncode
+
+def peak_of(pid):
+    try:
+        with open('/proc/%d/status' % pid) as told:
+            for line in told:
+                if line.startswith('VmHWM'):
+                    return int(line.split()[1])
+    except OSError:
+        pass
+    return 0
 
 programs = {'edge': [edge, 'replay'], 'plain': [plain]}
 runs = {name: [] for name in programs}
