@@ -15,4 +15,4 @@ one_more begun out mid new items i d below same p q r =
 
 pub loop-item-preserved : goal.loop-item-preserved
 loop-item-preserved c =
-    one_more _ _ _ _ c.args.items.now c.loop-item.item-index c.item-item.result c.loop-item-test.true c.item-item.is c.loop-item.invariant c.in_ok-push_item.ensures c.in_ok-push.ensures
+    one_more _ _ _ _ c.args.items.now c.loop-item.item-index c.item-item.result c.loop-item-test.true c.item-item.is c.loop-item.invariant c.in_ok-push_item.ensures c.in_ok-push.ensures.ok

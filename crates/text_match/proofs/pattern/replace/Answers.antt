@@ -15,10 +15,10 @@ returns c =
     let groups : List (List ℕ) = c.as_slice.result.now in
     let groups_are : groups ≡ map (λ n. text_at (captures_haystack captures) (captures_span captures n)) (range_with_len 1 8) = c.as_slice.ensures ∙ c.in_ok-groups.ensures in
     let middle : c.bytes.result.now ≡ filled groups replacement = c.bytes.ensures ∙ c.in_ok-filled.ensures in
-    let front : c.push.new.self ≡ take start text = c.in_ok-push.ensures ∙ ap₂ (λ (w : List ℕ) (n : ℕ). w ++ take n text) c.new-whole.ensures c.start.ensures in
-    let both : c.push-2.new.self ≡ take start text ++ filled groups replacement = c.in_ok-push-2.ensures ∙ ap₂ (λ (w f : List ℕ). w ++ f) front middle in
+    let front : c.push.new.self ≡ take start text = c.in_ok-push.ensures.ok ∙ ap₂ (λ (w : List ℕ) (n : ℕ). w ++ take n text) c.new-whole.ensures c.start.ensures in
+    let both : c.push-2.new.self ≡ take start text ++ filled groups replacement = c.in_ok-push-2.ensures.ok ∙ ap₂ (λ (w f : List ℕ). w ++ f) front middle in
     let whole : c.push-3.new.self ≡ (take start text ++ filled groups replacement) ++ drop end text =
-    c.in_ok-push-3.ensures ∙ ap₂ (λ (w f : List ℕ). w ++ f) both (take_rest c.end.result text ∙ ap (λ n. drop n text) c.end.ensures) in
+    c.in_ok-push-3.ensures.ok ∙ ap₂ (λ (w f : List ℕ). w ++ f) both (take_rest c.end.result text ∙ ap (λ n. drop n text) c.end.ensures) in
     λ m are.
     c.into_text.ensures ∙ whole ∙ append_assoc (take start text) (filled groups replacement) (drop end text)
     ∙ replace_is text replacement captures m (start, end) groups are c.get_match-found.ensures.found groups_are
