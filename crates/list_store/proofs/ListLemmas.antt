@@ -1,13 +1,12 @@
 -- Lists one by one.
-use Rattle.std.proofs.Common.{◌≡◌, ℕ, zero, suc, ◌+◌, ◌<◌, ◌≤◌, List, [], ◌∷◌, ◌++◌, length, get_or, take, Err, refl, sym, ap, ◌∙◌, subst, inl, inr, arith}
+use Rattle.std.proofs.Common.{◌≡◌, ℕ, zero, suc, ◌+◌, ◌<◌, List, [], ◌∷◌, length, get_or, take, refl, ap, inl, inr, arith}
 use Rattle.std.specs.List.{AllZip}
 use Rattle.std.proofs.lemmas.Bool.{cases_lt}
 use Rattle.std.proofs.lemmas.List.{get_or_default}
 use Rattle.list_store.specs.declared.part.ListPart.{ListPart}
-use Rattle.list_store.specs.declared.part.ListFault.TheVariants as fault
 use Rattle.list_store.specs.declared.members.Members.{Members}
-use Rattle.list_store.specs.Parts.{IsFine, IsRepeated, HasTooMany, HasBadItem, AreFineBefore, IsFirstList}
-use Rattle.list_store.specs.Members.{AreMembersOf, Makes}
+use Rattle.list_store.specs.Parts.{IsFine, AreFineBefore}
+use Rattle.list_store.specs.Members.{AreMembersOf}
 
 pub AreFineBefore-more : (parts : List ListPart) (i : ℕ) (e : ListPart) → i < length parts → AreFineBefore parts i → IsFine (take i parts) (get_or parts i e) → AreFineBefore parts (i + 1)
 AreFineBefore-more parts i e within before here k d low =

@@ -1,10 +1,8 @@
 -- What is kept of a list, so that it is asked without a scan.
-use Rattle.std.specs.Prelude.{◌≡◌, ◌↔◌, ℕ, ◌<◌, Bool, IsTrue, List, length, Result, Ok, Err}
-use Rattle.std.specs.List.{list_any, AllZip, HoldsAt}
+use Rattle.std.specs.Prelude.{◌≡◌, ◌↔◌, ℕ, IsTrue, List, Result, Ok, Err}
+use Rattle.std.specs.List.{list_any}
 use Rattle.std.specs.Str.{bytes_eq}
-use Rattle.std.specs.HashSet.{HashSet}
 use Rattle.edge_base.specs.declared.address.Addr.{Addr}
-use Rattle.edge_fields.specs.declared.kind.Basic.{Basic}
 use Rattle.edge_fields.specs.declared.kind.Basic.TheVariants as basic
 use Rattle.addr_set.specs.declared.set.AddrSet.{AddrSet}
 use Rattle.addr_set.specs.Sets.{addresses_of}

@@ -1,4 +1,4 @@
-use Rattle.std.proofs.Common.{◌≡◌, ◌+◌, [], ◌∷◌, ◌++◌, length, get_or, take, subst, length-append, arith}
+use Rattle.std.proofs.Common.{◌≡◌, get_or, take, subst, length-append, arith}
 use Rattle.addr_set.proofs.ListLemmas.{AllZip-take_more}
 use Rattle.list_store.specs.Parts.{IsFine}
 use Rattle.list_store.specs.Members.{AreMembersOf}

@@ -1,7 +1,6 @@
-use Rattle.std.proofs.Common.{◌≡◌, ◌↔◌, Err, true, refl, ap, sym, ◌∙◌}
+use Rattle.std.proofs.Common.{Err, refl, ap, sym, ◌∙◌}
 use Rattle.addr_set.specs.ItemTexts.{IsRefused, IsLongPrefix, IsBackward}
 use Rattle.addr_set.proofs.ReadingLemmas.{IsRefused-long_prefix, IsRefused-backward}
-use Rattle.list_store.specs.Parts.{HasAddr}
 use Rattle.list_store.proofs.SetLemmas.{has_addr-texts, AreRead-zip, IsFirstFault-weaker}
 use Rattle.list_store.proofs.members.addrs_of.Goals as goal
 

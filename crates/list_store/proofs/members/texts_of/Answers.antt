@@ -1,8 +1,7 @@
-use Rattle.std.proofs.Common.{◌≡◌, ◌||◌, List, ℕ, get_or, take, ap, sym, ◌∙◌}
+use Rattle.std.proofs.Common.{◌≡◌, ◌||◌, get_or, take, ap, sym, ◌∙◌}
 use Rattle.std.specs.List.{list_any}
 use Rattle.std.specs.Str.{bytes_eq}
 use Rattle.std.proofs.lemmas.List.Folds.{list_any_more}
-use Rattle.list_store.specs.Parts.{has_text}
 use Rattle.list_store.proofs.SetLemmas.{has-put}
 use Rattle.list_store.proofs.members.texts_of.Goals as goal
 
