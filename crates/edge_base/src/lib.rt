@@ -10,6 +10,8 @@ mod moment;
 mod refusal;
 mod rule_name;
 mod terminal;
+#[cfg(test)]
+mod tests;
 mod text;
 mod token;
 
@@ -20,6 +22,6 @@ pub use message::{Header, Headers, Reply, Request, copy_headers};
 pub use moment::Moment;
 pub use refusal::Memory;
 pub use rule_name::{RuleName, RuleNames, copy_rule_names};
-pub use terminal::{Terminal, Terminals};
+pub use terminal::Terminal;
 pub use text::{Text, Texts, copy_texts};
 pub use token::{Token, TokenKind, Tokens};

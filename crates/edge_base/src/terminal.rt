@@ -1,7 +1,6 @@
 use crate::address::Addr;
 use crate::expression::Order;
 use crate::text::Text;
-use sqlite_items::Items;
 
 /// What a token means to the grammar, with its value: a word and its sign are one terminal, and so are a text and a
 /// raw text.
@@ -38,6 +37,3 @@ pub enum Terminal {
     /// `..`
     To,
 }
-
-/// A list of terminals.
-pub type Terminals = Items<Terminal>;
