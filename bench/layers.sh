@@ -1,0 +1,81 @@
+#!/usr/bin/env bash
+# Measures one call of each layer by the program `edge_bench`, and how a wildcard's time grows with the text.
+# usage: bench/layers.sh      needs: the built program (`rt run` in crates/edge_bench) and python3
+# Each bench runs five times without a round and five times with many, by turns. A call's time is the difference of the two
+# over the number of rounds, so that starting and building don't count. It includes picking what is asked for, some ns.
+set -eu
+here=$(cd "$(dirname "$0")" && pwd)
+program=$here/../crates/edge_bench/out/edge_bench
+command -v python3 >/dev/null || { echo "layers: no python3 here; left out"; exit 0; }
+[ -x "$program" ] || { echo "layers: the program isn't built; left out"; exit 0; }
+
+python3 - "$program" <<'P'
+import os, statistics, subprocess, sys, time
+program = sys.argv[1]
+runs = 5
+# How long the rounds of one run take at least, and how many there are at most.
+long_enough, most_rounds = 0.25, 2 ** 30
+
+def run(name, size, rounds):
+    begun = time.perf_counter()
+    child = subprocess.Popen([program, name, str(size), str(rounds)], stdout=subprocess.PIPE)
+    said = child.stdout.read().decode()
+    _, status, used = os.wait4(child.pid, 0)
+    took = time.perf_counter() - begun
+    child.returncode = os.waitstatus_to_exitcode(status)
+    if child.returncode != 0:
+        sys.exit('layers: %s %d %d ended with status %d' % (name, size, rounds, child.returncode))
+    return took, used.ru_utime + used.ru_stime, said
+
+def rounds_for(name, size):
+    rounds, without = 1, run(name, size, 0)[0]
+    while rounds < most_rounds:
+        took = run(name, size, rounds)[0] - without
+        if took >= long_enough:
+            break
+        # At most a hundred times as many, since a short time tells little.
+        rounds = min(most_rounds, int(rounds * min(100, max(2, 1.2 * long_enough / max(took, 1e-6)))))
+    return rounds
+
+def measure(name, size):
+    rounds = rounds_for(name, size)
+    without, many = [], []
+    for _ in range(runs):
+        without.append(run(name, size, 0))
+        many.append(run(name, size, rounds))
+    if len({r[2] for r in many}) != 1:
+        sys.exit('layers: %s %d %d gave different answers' % (name, size, rounds))
+    def call(of, which):
+        return (of(r[which] for r in many) - statistics.median(r[which] for r in without)) / rounds
+    return call(min, 0), call(statistics.median, 0), call(min, 1), rounds, int(many[0][2].split()[2])
+
+def shown(seconds):
+    for unit, scale in (('s', 1), ('ms', 1e3), ('us', 1e6)):
+        if seconds * scale >= 1:
+            return '%.4g %s' % (seconds * scale, unit)
+    return '%.3g ns' % (seconds * 1e9)
+
+def told(name, size, ratio_to=None):
+    best, median, cpu, rounds, found = measure(name, size)
+    ratio = '' if ratio_to is None else ', %.2f times the last' % (best / ratio_to)
+    print('%-11s %6d  best %s, median %s, CPU %s (best), rounds %d, found %d%s' % (
+        name, size, shown(best), shown(median), shown(cpu), rounds, found, ratio), flush=True)
+    return best
+
+def load():
+    return '%d processors, load %.2f' % (os.cpu_count(), os.getloadavg()[0])
+
+print('one call, by %d runs; %s' % (runs, load()))
+for size in (1024, 4096):
+    told('lex', size)
+for name in ('has_addr', 'has_text'):
+    for size in (50, 500, 5000, 50000):
+        told(name, size)
+# `wild` has four short pieces, so that a doubling of the text can double its time at most. The other two have a piece half as
+# long as the text, at the end or anywhere: there both lengths double, and the time grows four times at most.
+for name in ('wild', 'wild_long', 'wild_middle'):
+    last = None
+    for doubled in range(7):
+        last = told(name, 1000 * 2 ** doubled, last)
+print('at the end: %s' % load())
+P

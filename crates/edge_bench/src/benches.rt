@@ -1,0 +1,114 @@
+use crate::addresses::addresses_found;
+use crate::expressions::tokens_found;
+use crate::faults::Fault;
+use crate::texts::texts_found;
+use crate::wildcards::{Shape, matches_found};
+use std::alloc::Global;
+
+/// What is called.
+#[derive(Clone, Copy, Debug, PartialEq, Eq)]
+pub enum Bench {
+    Lex,
+    HasAddr,
+    HasText,
+    Wild(Shape),
+}
+
+/// Every bench.
+const BENCHES: [Bench; 6] = [
+    Bench::Lex,
+    Bench::HasAddr,
+    Bench::HasText,
+    Bench::Wild(Shape::Stars),
+    Bench::Wild(Shape::LongEnd),
+    Bench::Wild(Shape::LongMiddle),
+];
+
+/// A bench at a size, and how often the call is made.
+#[derive(Clone, Copy, Debug)]
+pub struct Job {
+    pub bench: Bench,
+    pub size: u32,
+    pub rounds: u32,
+}
+
+/// Each bench at a small size.
+pub const SMALL: [Job; 6] = [
+    Job {
+        bench: Bench::Lex,
+        size: 512,
+        rounds: 2,
+    },
+    Job {
+        bench: Bench::HasAddr,
+        size: 100,
+        rounds: 1000,
+    },
+    Job {
+        bench: Bench::HasText,
+        size: 100,
+        rounds: 1000,
+    },
+    Job {
+        bench: Bench::Wild(Shape::Stars),
+        size: 100,
+        rounds: 10,
+    },
+    Job {
+        bench: Bench::Wild(Shape::LongEnd),
+        size: 100,
+        rounds: 10,
+    },
+    Job {
+        bench: Bench::Wild(Shape::LongMiddle),
+        size: 100,
+        rounds: 10,
+    },
+];
+
+impl Bench {
+    pub fn name(self) -> &'static str {
+        match self {
+            Bench::Lex => "lex",
+            Bench::HasAddr => "has_addr",
+            Bench::HasText => "has_text",
+            Bench::Wild(Shape::Stars) => "wild",
+            Bench::Wild(Shape::LongEnd) => "wild_long",
+            Bench::Wild(Shape::LongMiddle) => "wild_middle",
+        }
+    }
+
+    /// The bench of a name.
+    fn named(name: &str) -> Option<Bench> {
+        for bench in BENCHES {
+            if bench.name() == name {
+                return Some(bench);
+            }
+        }
+        None
+    }
+}
+
+impl Job {
+    /// The job that words ask for: a bench's name, a size and a number of rounds.
+    pub fn of(words: &[String]) -> Option<Job> {
+        let [name, size, rounds] = words else {
+            return None;
+        };
+        Some(Job {
+            bench: Bench::named(name.as_str())?,
+            size: size.as_str().parse().ok()?,
+            rounds: rounds.as_str().parse().ok()?,
+        })
+    }
+
+    /// A number that every answer of the job counts in.
+    pub fn found(self, alloc: Global) -> Result<u64, Fault> {
+        match self.bench {
+            Bench::Lex => tokens_found(alloc, self.size, self.rounds),
+            Bench::HasAddr => addresses_found(alloc, self.size, self.rounds),
+            Bench::HasText => texts_found(alloc, self.size, self.rounds),
+            Bench::Wild(shape) => matches_found(alloc, shape, self.size, self.rounds),
+        }
+    }
+}

@@ -1,0 +1,67 @@
+//! The program `edge_bench`: it makes one call of a layer many times, so that the time of a call can be told from
+//! outside (`bench/layers.sh`). It reads no clock.
+#![tactic(auto)]
+
+mod addresses;
+mod benches;
+mod expressions;
+mod faults;
+mod spread;
+mod texts;
+mod wildcards;
+
+use benches::{Job, SMALL};
+use faults::Fault;
+use std::alloc::Global;
+use std::process::ExitCode;
+use std::rt::Env;
+use std::{env, io};
+
+/// The words behind the program's name.
+fn words<R: Env + AllocGlobal>(rt: &R) -> io::Result<Vec<String>> {
+    let mut words = Vec::new(rt.alloc());
+    for word in env::args(rt)?.skip(1) {
+        words.push(word)?;
+    }
+    Ok(words)
+}
+
+/// Does a job, and prints its line.
+fn print_found(rt: &impl Print, alloc: Global, job: Job) -> Result<(), Fault> {
+    let found = job.found(alloc)?;
+    let name = job.bench.name();
+    let size = job.size;
+    match println!(rt; "{name} {size} {found}") {
+        Ok(()) => Ok(()),
+        Err(_) => Err(Fault::Write),
+    }
+}
+
+/// The job that the words ask for, or each at a small size where there are none.
+fn run(rt: &impl Print, alloc: Global, words: &[String]) -> Result<(), Fault> {
+    if words.is_empty() {
+        for job in SMALL {
+            print_found(rt, alloc, job)?;
+        }
+        return Ok(());
+    }
+    match Job::of(words) {
+        Some(job) => print_found(rt, alloc, job),
+        None => Err(Fault::Usage),
+    }
+}
+
+fn main(rt: HostRuntime) -> ExitCode {
+    // Words that can't be read, as where one isn't UTF-8, are no job.
+    let done = match words(&rt) {
+        Ok(words) => run(&rt, rt.alloc(), words.as_slice()),
+        Err(_) => Err(Fault::Usage),
+    };
+    match done {
+        Ok(()) => ExitCode::SUCCESS,
+        Err(fault) => {
+            let _ = rt.eprintln(fault.said());
+            ExitCode::from(fault.code())
+        }
+    }
+}
