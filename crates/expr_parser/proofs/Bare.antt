@@ -1,11 +1,10 @@
 -- What may follow doesn't depend on the trees that were read.
-use Rattle.std.proofs.Common.{◌≡◌, ℕ, suc, ◌+◌, pos, negsuc, Bool, true, false, List, [], ◌∷◌, ◌++◌, length, map, refl, ap, subst, ◌∙◌, sym, arith, is_some}
+use Rattle.std.proofs.Common.{◌≡◌, ℕ, suc, ◌+◌, pos, negsuc, true, false, List, [], ◌∷◌, length, refl, ap, subst, ◌∙◌, sym, arith, is_some}
 use Rattle.std.specs.declared.option.Option.{Option}
 use Rattle.std.specs.declared.option.Option.TheVariants.{None, Some}
 use Rattle.std.specs.Option.{option_map, option_and_then}
 use Rattle.edge_base.specs.declared.expression.Lit.{Lit}
 use Rattle.edge_base.specs.declared.expression.Lit.TheVariants as lit
-use Rattle.edge_base.specs.declared.expression.Item.{Item}
 use Rattle.edge_base.specs.declared.expression.Expr.{Expr}
 use Rattle.edge_base.specs.declared.expression.Expr.TheVariants as expr
 use Rattle.edge_base.specs.declared.terminal.Terminal.{Terminal}
@@ -22,7 +21,7 @@ use Rattle.expr_parser.specs.declared.state.Mode.{Mode}
 use Rattle.expr_parser.specs.declared.state.Mode.TheVariants as mode
 use Rattle.expr_parser.specs.declared.state.State.{State}
 use Rattle.expr_parser.specs.Testing.{test_step}
-use Rattle.expr_parser.specs.Machine.{fresh, level, state, start, chain_of, closed, further, at_want, at_begin, at_whole, at_end, at_operand, at_path, at_named, at_index, at_index_end, mode_of, at_testing, at_mode, step, ended, ending, outcome, counted, taken, stub, bare_mode, bared}
+use Rattle.expr_parser.specs.Machine.{fresh, level, state, start, chain_of, closed, further, at_want, at_begin, at_whole, at_end, at_operand, at_path, at_named, at_index, at_index_end, mode_of, at_mode, step, ended, ending, outcome, counted, taken, stub, bare_mode, bared}
 use Rattle.expr_parser.proofs.Steps.{read_is_derived}
 use Rattle.expr_parser.proofs.Faults.{refused_is_fault}
 

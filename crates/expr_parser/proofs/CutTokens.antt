@@ -1,5 +1,5 @@
 -- The tokens of a cut lie in the text, and are of their kinds.
-use Rattle.std.proofs.Common.{ℕ, zero, suc, ◌<◌, ◌≤◌, List, [], ◌∷◌, length, arith}
+use Rattle.std.proofs.Common.{ℕ, suc, ◌<◌, ◌≤◌, List, [], ◌∷◌, length, arith}
 use Rattle.std.specs.List.{All}
 use Rattle.edge_base.specs.declared.token.Token.{Token}
 use Rattle.edge_base.specs.Cut.{IsCutBetween, IsCut}

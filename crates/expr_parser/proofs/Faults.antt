@@ -1,5 +1,5 @@
 -- Where the machine refuses a terminal, no expression goes on so; and up to there one does.
-use Rattle.std.proofs.Common.{◌≡◌, ℕ, suc, ◌+◌, ◌<◌, ◌≤◌, pos, Bool, true, List, [], ◌∷◌, ◌++◌, length, take, drop, refl, ap, subst, ◌∙◌, sym, arith, append_assoc, add-one}
+use Rattle.std.proofs.Common.{◌≡◌, ℕ, suc, ◌+◌, ◌<◌, ◌≤◌, Bool, true, List, [], ◌∷◌, ◌++◌, length, take, refl, ap, ◌∙◌, arith, add-one}
 use Rattle.std.specs.declared.option.Option.{Option}
 use Rattle.std.specs.declared.option.Option.TheVariants.{None, Some}
 use Rattle.std.specs.Option.{option_and_then}
@@ -11,8 +11,7 @@ use Rattle.edge_base.specs.declared.expression.Expr.{Expr}
 use Rattle.edge_base.specs.declared.expression.Expr.TheVariants as expr
 use Rattle.edge_base.specs.declared.terminal.Terminal.{Terminal}
 use Rattle.edge_base.specs.declared.terminal.Terminal.TheVariants as terminal
-use Rattle.edge_base.specs.Grammar.{Derives, Begins, IsFault}
-use Rattle.expr_parser.specs.declared.testing.TextTest.TheVariants as text
+use Rattle.edge_base.specs.Grammar.{Begins, IsFault}
 use Rattle.expr_parser.specs.declared.testing.Testing.{Testing}
 use Rattle.expr_parser.specs.declared.testing.Testing.TheVariants as testing
 use Rattle.expr_parser.specs.declared.state.Frame.{Frame}

@@ -1,5 +1,5 @@
 -- A text begins with marks where its front is of marks.
-use Rattle.std.proofs.Common.{◌≡◌, ℕ, zero, suc, ◌≤◌, Bool, true, ◌&&◌, ◌==◌, nat_eq, List, [], ◌∷◌, length, take, replicate, refl, ap, ◌∙◌, sym, arith}
+use Rattle.std.proofs.Common.{◌≡◌, ℕ, zero, suc, ◌≤◌, ◌&&◌, ◌==◌, nat_eq, List, [], ◌∷◌, length, take, replicate, refl, ap, ◌∙◌, sym, arith}
 use Rattle.std.specs.List.{list_all, starts_with}
 use Rattle.std.specs.Cmp.Lexicographic.{pointwise}
 use Rattle.std.proofs.Math.ListN.{length-replicate}

@@ -1,10 +1,6 @@
 -- A text has one answer, but for want of memory.
-use Rattle.std.proofs.Common.{◌≡◌, ◌≢◌, ℕ, ◌<◌, ◌≤◌, List, [], ◌∷◌, length, refl, ap, subst, ◌∙◌, sym, arith}
+use Rattle.std.proofs.Common.{◌≡◌, ℕ, List, [], ◌∷◌, length, refl, ap, subst, ◌∙◌, sym, arith}
 use Rattle.std.specs.Prelude.{Ok, Err}
-use Rattle.std.specs.declared.option.Option.TheVariants.{None, Some}
-use Rattle.std.specs.declared.result.Result.{Result}
-use Rattle.edge_base.specs.declared.address.Addr.{Addr}
-use Rattle.edge_base.specs.declared.expression.Expr.{Expr}
 use Rattle.edge_base.specs.declared.terminal.Terminal.{Terminal}
 use Rattle.edge_base.specs.declared.terminal.Terminal.TheVariants as terminal
 use Rattle.edge_base.specs.declared.token.Token.{Token}
@@ -12,13 +8,12 @@ use Rattle.edge_base.specs.declared.token.TokenKind.{TokenKind}
 use Rattle.edge_base.specs.declared.token.TokenKind.TheVariants as kind
 use Rattle.edge_base.specs.Address.{AddressIsUnique}
 use Rattle.edge_base.specs.Token.{Word, words_of}
-use Rattle.edge_base.specs.Cut.{IsCut, IsFirstFault, CutsAreUnique, FaultsAreUnique}
+use Rattle.edge_base.specs.Cut.{IsFirstFault, CutsAreUnique, FaultsAreUnique}
 use Rattle.edge_base.specs.Terminal.{IsTerminalOf, AreTerminals}
 use Rattle.edge_base.specs.Grammar.{Derives, IsFault}
 use Rattle.edge_base.specs.Nesting.{nesting}
-use Rattle.expr_parser.specs.declared.grammar.ParseFault.{ParseFault}
 use Rattle.expr_parser.specs.declared.grammar.ParseFault.TheVariants as fault
-use Rattle.expr_parser.specs.Parsed.{IsTokenized, place_of, IsAnswer, AnswersAreUnique}
+use Rattle.expr_parser.specs.Parsed.{IsTokenized, place_of, AnswersAreUnique}
 use Rattle.expr_parser.proofs.ReadExpressions.{one_tree}
 use Rattle.expr_parser.proofs.Places.{one_fault}
 

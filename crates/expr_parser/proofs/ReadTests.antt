@@ -1,5 +1,5 @@
 -- The machine reads each test that the grammar has.
-use Rattle.std.proofs.Common.{◌≡◌, ℕ, ℤ, Bool, List, [], ◌∷◌, ◌++◌, refl, ap, ◌∙◌, sym, append_assoc}
+use Rattle.std.proofs.Common.{◌≡◌, ℤ, Bool, List, [], ◌∷◌, ◌++◌, refl, ap, ◌∙◌, sym, append_assoc}
 use Rattle.edge_base.specs.declared.address.Addr.{Addr}
 use Rattle.edge_base.specs.declared.expression.Lit.TheVariants as lit
 use Rattle.edge_base.specs.declared.expression.Item.{Item}
@@ -10,8 +10,7 @@ use Rattle.edge_base.specs.declared.expression.Expr.{Expr}
 use Rattle.edge_base.specs.declared.expression.Expr.TheVariants as expr
 use Rattle.edge_base.specs.declared.terminal.Terminal.{Terminal}
 use Rattle.edge_base.specs.declared.terminal.Terminal.TheVariants as terminal
-use Rattle.edge_base.specs.Grammar.{IsLiteral, text_literal, number_literal, address_literal, IsItem, literal_item, block_item, numbers_item, addresses_item, IsItems, one_item, more_items, IsTest, in_order, contains, matches, wildcard, strict_wildcard, in_list, in_items}
-use Rattle.expr_parser.specs.declared.testing.Testing.{Testing}
+use Rattle.edge_base.specs.Grammar.{text_literal, number_literal, address_literal, IsItem, literal_item, block_item, numbers_item, addresses_item, IsItems, one_item, more_items, IsTest, in_order, contains, matches, wildcard, strict_wildcard, in_list, in_items}
 use Rattle.expr_parser.specs.declared.testing.Testing.TheVariants as testing
 use Rattle.expr_parser.specs.declared.state.Frame.{Frame}
 use Rattle.expr_parser.specs.declared.state.Level.{Level}

@@ -1,18 +1,14 @@
 -- What a state of the machine stands for: the terminals that it has read, split into what is open.
-use Rattle.std.proofs.Common.{◌≡◌, ℕ, ℤ, suc, Bool, List, [], ◌∷◌, ◌++◌, refl, ap, subst, ◌∙◌, sym, append_assoc, append-nil}
+use Rattle.std.proofs.Common.{◌≡◌, ℕ, suc, List, [], ◌∷◌, ◌++◌, refl, subst, sym, append_assoc, append-nil}
 use Rattle.std.specs.declared.option.Option.{Option}
 use Rattle.std.specs.declared.option.Option.TheVariants.{None, Some}
-use Rattle.edge_base.specs.declared.address.Addr.{Addr}
-use Rattle.edge_base.specs.declared.expression.Lit.{Lit}
 use Rattle.edge_base.specs.declared.expression.Lit.TheVariants as lit
 use Rattle.edge_base.specs.declared.expression.Item.{Item}
-use Rattle.edge_base.specs.declared.expression.Test.{Test}
 use Rattle.edge_base.specs.declared.expression.Expr.{Expr}
 use Rattle.edge_base.specs.declared.expression.Expr.TheVariants as expr
 use Rattle.edge_base.specs.declared.terminal.Terminal.{Terminal}
 use Rattle.edge_base.specs.declared.terminal.Terminal.TheVariants as terminal
-use Rattle.edge_base.specs.Grammar.{together, IsLiteral, IsItem, IsItems, IsTest, IsExpression, literal, chain, IsChain, one_xor, more_xors, IsXor, one_and, more_ands, IsAnd, one_unit, more_units, IsUnit, negated, IsOperand, IsPath, IsArguments, Derives}
-use Rattle.expr_parser.specs.declared.testing.TextTest.{TextTest}
+use Rattle.edge_base.specs.Grammar.{together, IsLiteral, IsItem, IsItems, IsTest, IsExpression, IsChain, one_xor, more_xors, IsXor, one_and, more_ands, IsAnd, one_unit, more_units, IsUnit, negated, IsOperand, IsPath, IsArguments}
 use Rattle.expr_parser.specs.declared.testing.Testing.{Testing}
 use Rattle.expr_parser.specs.declared.testing.Testing.TheVariants as testing
 use Rattle.expr_parser.specs.declared.testing.Tested.{Tested}

@@ -1,5 +1,5 @@
 -- The machine's states stand for the terminals read, from step to step: so what is read is derived.
-use Rattle.std.proofs.Common.{◌≡◌, ℕ, pos, negsuc, Bool, true, false, List, [], ◌∷◌, ◌++◌, refl, ap, subst, ◌∙◌, sym, append_assoc, append-nil}
+use Rattle.std.proofs.Common.{◌≡◌, ℕ, pos, negsuc, true, false, List, [], ◌∷◌, ◌++◌, refl, ap, subst, ◌∙◌, sym, append_assoc, append-nil}
 use Rattle.std.specs.declared.option.Option.{Option}
 use Rattle.std.specs.declared.option.Option.TheVariants.{None, Some}
 use Rattle.std.specs.Option.{option_map, option_and_then}
@@ -9,7 +9,7 @@ use Rattle.edge_base.specs.declared.expression.Expr.{Expr}
 use Rattle.edge_base.specs.declared.expression.Expr.TheVariants as expr
 use Rattle.edge_base.specs.declared.terminal.Terminal.{Terminal}
 use Rattle.edge_base.specs.declared.terminal.Terminal.TheVariants as terminal
-use Rattle.edge_base.specs.Grammar.{together, IsLiteral, text_literal, number_literal, address_literal, in_order, contains, matches, wildcard, IsExpression, literal, chain, IsChain, IsUnit, group, untested, tested, IsOperand, true_word, false_word, path, IsPath, name, call, index, key, each, IsArguments, one_argument, more_arguments, Derives}
+use Rattle.edge_base.specs.Grammar.{together, IsLiteral, text_literal, number_literal, address_literal, contains, matches, wildcard, literal, chain, IsChain, IsUnit, group, untested, tested, IsOperand, true_word, false_word, path, IsPath, name, call, index, key, each, one_argument, more_arguments, Derives}
 use Rattle.expr_parser.specs.declared.testing.TextTest.TheVariants as text
 use Rattle.expr_parser.specs.declared.testing.Testing.{Testing}
 use Rattle.expr_parser.specs.declared.testing.Testing.TheVariants as testing
@@ -23,7 +23,7 @@ use Rattle.expr_parser.specs.declared.state.Mode.{Mode}
 use Rattle.expr_parser.specs.declared.state.Mode.TheVariants as mode
 use Rattle.expr_parser.specs.declared.state.State.{State}
 use Rattle.expr_parser.specs.Testing.{test_step}
-use Rattle.expr_parser.specs.Machine.{frame, fresh, level, state, start, negate, and_of, xor_of, chain_of, at_want, at_begin, closed, further, at_whole, at_end, at_operand, at_path, at_named, at_index, at_index_end, mode_of, at_testing, at_mode, step, ended, ending, outcome}
+use Rattle.expr_parser.specs.Machine.{fresh, level, state, start, xor_of, chain_of, at_want, at_begin, closed, further, at_whole, at_end, at_operand, at_path, at_named, at_index, at_index_end, mode_of, at_mode, step, ended, outcome}
 use Rattle.expr_parser.proofs.Standing.{Spells, Opening, Around, TakesIn, Takes, TestFront, TestedBy, Inside, StandsAt, StandsIn, StandsFor, Next, Completed, CompletedIn, WholeIn, moved, fresh_spells, chain_whole, level_not, level_and, level_xor, level_or}
 use Rattle.expr_parser.proofs.TestSteps.{TestNext, test_next}
 

@@ -1,5 +1,5 @@
 -- A test under way stands for its terminals, from step to step; and a whole one is derived.
-use Rattle.std.proofs.Common.{◌≡◌, ℕ, ℤ, List, [], ◌∷◌, ◌++◌, refl, ap, subst, ◌∙◌, sym, append_assoc}
+use Rattle.std.proofs.Common.{◌≡◌, ℤ, List, [], ◌∷◌, ◌++◌, ap, subst, ◌∙◌, sym, append_assoc}
 use Rattle.std.specs.declared.option.Option.{Option}
 use Rattle.std.specs.declared.option.Option.TheVariants.{None, Some}
 use Rattle.edge_base.specs.declared.address.Addr.{Addr}
@@ -9,7 +9,7 @@ use Rattle.edge_base.specs.declared.expression.Item.{Item}
 use Rattle.edge_base.specs.declared.expression.Item.TheVariants as item
 use Rattle.edge_base.specs.declared.terminal.Terminal.{Terminal}
 use Rattle.edge_base.specs.declared.terminal.Terminal.TheVariants as terminal
-use Rattle.edge_base.specs.Grammar.{text_literal, number_literal, address_literal, IsItem, literal_item, block_item, numbers_item, addresses_item, IsItems, one_item, more_items, in_order, strict_wildcard, in_list, in_items}
+use Rattle.edge_base.specs.Grammar.{text_literal, number_literal, address_literal, literal_item, block_item, numbers_item, addresses_item, IsItems, one_item, more_items, in_order, strict_wildcard, in_list, in_items}
 use Rattle.expr_parser.specs.declared.testing.TextTest.{TextTest}
 use Rattle.expr_parser.specs.declared.testing.Testing.{Testing}
 use Rattle.expr_parser.specs.declared.testing.Testing.TheVariants as testing

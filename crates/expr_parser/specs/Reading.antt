@@ -1,5 +1,5 @@
 -- What the reading of terminals answers.
-use Rattle.std.specs.Prelude.{ℕ, List}
+use Rattle.std.specs.Prelude.{List}
 use Rattle.edge_base.specs.declared.terminal.Terminal.{Terminal}
 use Rattle.edge_base.specs.Grammar.{Derives, IsFault}
 use Rattle.expr_parser.specs.declared.reading.Reading.{Reading}

@@ -1,6 +1,6 @@
 -- How a tree is spelled: words in place of signs, one blank between tokens but none inside `[ ]`, around `..`, before
 -- `(` of a call, `,` and `)`, or behind `(`; parentheses only where needed.
-use Rattle.std.specs.Prelude.{ℕ, suc, ◌==◌, nat_lt, Bool, true, false, cond, not, ◌||◌, List, [], ◌∷◌, ◌++◌, map, ℤ, pos, negsuc, codes, decimal}
+use Rattle.std.specs.Prelude.{ℕ, suc, ◌==◌, nat_lt, Bool, true, false, cond, ◌||◌, List, [], ◌∷◌, ◌++◌, ℤ, pos, negsuc, codes, decimal}
 use Rattle.edge_base.specs.declared.expression.Lit.{Lit}
 use Rattle.edge_base.specs.declared.expression.Lit.TheVariants as lit
 use Rattle.edge_base.specs.declared.expression.Order.{Order}

@@ -3,7 +3,6 @@ use Rattle.std.specs.Prelude.{ℕ, ℤ, List, [], ◌∷◌, ◌++◌}
 use Rattle.std.specs.declared.option.Option.{Option}
 use Rattle.std.specs.declared.option.Option.TheVariants.{None, Some}
 use Rattle.edge_base.specs.declared.address.Addr.{Addr}
-use Rattle.edge_base.specs.declared.expression.Lit.{Lit}
 use Rattle.edge_base.specs.declared.expression.Lit.TheVariants as lit
 use Rattle.edge_base.specs.declared.expression.Order.{Order}
 use Rattle.edge_base.specs.declared.expression.Item.{Item}

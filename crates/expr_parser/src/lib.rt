@@ -19,7 +19,7 @@ mod testing;
 mod texts;
 
 pub use grammar::{ParseFault, answers_are_unique, parse};
-pub use printer::print;
+pub use printer::{print, prints_are_parsed_again};
 pub use reading::{derivations_are_unique, faults_are_unique};
 
 #[cfg(test)]

@@ -1,6 +1,8 @@
 ghost use Rattle.std.specs.Prelude.{◌≡◌, ◌+◌, ◌≤◌, ◌++◌, map, nat_lt, IfOk, OnOk};
 ghost use Rattle.expr_parser.specs.Spelling.{joined, within, spelling_at, spelling};
+ghost use Rattle.expr_parser.specs.Reread.{IsReadAgain, SpellingsAreParsedAgain};
 
+use crate::grammar::answers_are_unique;
 use crate::phrases::{push_lit, push_quoted, push_signed, push_test};
 use edge_base::{Expr, Memory, Text, TextBuilder};
 use std::alloc::Global;
@@ -91,11 +93,19 @@ fn push_expr(alloc: Global, out: &mut TextBuilder, expr: &Expr, tightness: u8) -
     }
 }
 
-/// The one spelling of a tree.
+/// The one spelling of a tree. Where some text is read as the tree, so is its print, which nests no deeper.
 pub fn print(alloc: Global, expr: &Expr) -> Result<Text, Memory>
-    ensures { IfOk result (λ text. text ≡ spelling expr.now) }
+    ensures spelling { IfOk result (λ text. text ≡ spelling expr.now) }
+    ensures again { IfOk result (λ text. IsReadAgain text expr.now) }
 {
     let mut out = TextBuilder::new(alloc);
     push_expr(alloc, &mut out, expr, 0)?;
     Ok(out.into_text())
+}
+
+/// The print of a tree that `parse` gave is parsed as this tree, where it has at most 4,096 bytes.
+pub fn prints_are_parsed_again()
+    ensures { SpellingsAreParsedAgain }
+{
+    answers_are_unique();
 }

@@ -1,5 +1,17 @@
 use crate::{ParseFault, parse, print};
+use std::alloc::Global;
+use std::process::Abort;
 use std::test::Fail;
+
+/// The tree of a text has this print, and so has the tree of the print.
+fn is_printed(rt: &impl Abort, alloc: Global, text: &str, want: &str) -> Result<(), Fail> {
+    let tree = parse(alloc, text.as_bytes())?;
+    let printed = print(alloc, &tree)?;
+    assert_eq!(rt; printed.bytes(), want.as_bytes(), "{text}");
+    let again = parse(alloc, printed.bytes())?;
+    assert_eq!(rt; print(alloc, &again)?, printed, "{text}");
+    Ok(())
+}
 
 /// A tree is shown by its print: where parentheses stand in it, a chain is a member of a chain.
 #[test]
@@ -71,12 +83,7 @@ fn texts_have_these_trees(rt: HostRuntime) -> Result<(), Fail> {
         ),
         ("not (a or b) xor (not c)", "not (a or b) xor not c"),
     ] {
-        let tree = parse(rt.alloc(), text.as_bytes())?;
-        assert_eq!(rt;
-            print(rt.alloc(), &tree)?.bytes(),
-            want.as_bytes(),
-            "{text}"
-        );
+        is_printed(&rt, rt.alloc(), text, want)?;
     }
     Ok(())
 }

@@ -1,5 +1,3 @@
-use Rattle.std.proofs.Common.{◌∙◌, sym}
-use Rattle.expr_parser.specs.Parsed.{AreTokensOf}
 use Rattle.expr_parser.proofs.CutTokens.{tokens_of_cut}
 use Rattle.expr_parser.proofs.grammar.parse.Goals as goal
 

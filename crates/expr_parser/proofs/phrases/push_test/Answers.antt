@@ -1,4 +1,3 @@
-use Rattle.std.proofs.Common.{◌≡◌}
 use Rattle.expr_parser.proofs.phrases.push_test.Goals as goal
 
 pub returns-in-StrictWild : goal.returns-in-StrictWild

@@ -1,4 +1,4 @@
-use Rattle.std.proofs.Common.{◌≡◌, ◌++◌, [], map, take, ap, ◌∙◌, sym, append-nil}
+use Rattle.std.proofs.Common.{◌≡◌, ◌++◌, map, take, ap, ◌∙◌, sym, append-nil}
 use Rattle.expr_parser.specs.Spelling.{spelling_at}
 use Rattle.expr_parser.proofs.SpellingLaws.{joint_behind, behind_none, behind_some, joined-take_more}
 use Rattle.expr_parser.proofs.printer.+printing.Goals as goal

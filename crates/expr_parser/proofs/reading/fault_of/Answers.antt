@@ -3,7 +3,7 @@ use Rattle.std.specs.Vec.Iter.{into_iter_items}
 use Rattle.edge_base.specs.declared.expression.Expr.{Expr}
 use Rattle.edge_base.specs.declared.terminal.Terminal.{Terminal}
 use Rattle.edge_base.specs.Grammar.{Derives, IsFault}
-use Rattle.expr_parser.proofs.Bare.{GoingBare, bare_goes_on, bare_refused, bare_cut_short, bare_ended_well}
+use Rattle.expr_parser.proofs.Bare.{bare_goes_on, bare_refused, bare_cut_short, bare_ended_well}
 use Rattle.expr_parser.proofs.reading.fault_of.Goals as goal
 
 nothing_left : (ts : List Terminal) → length ts ≡ 0 → ts ≡ []

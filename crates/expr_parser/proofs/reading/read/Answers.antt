@@ -1,8 +1,8 @@
-use Rattle.std.proofs.Common.{◌≡◌, ◌∙◌, sym, ap, subst, List, [], ◌∷◌, length, refl, arith}
+use Rattle.std.proofs.Common.{◌≡◌, ◌∙◌, sym, subst, List, [], ◌∷◌, length, refl, arith}
 use Rattle.std.specs.Vec.Iter.{into_iter_items}
 use Rattle.edge_base.specs.Grammar.{Derives, IsFault}
 use Rattle.edge_base.specs.declared.terminal.Terminal.{Terminal}
-use Rattle.expr_parser.proofs.Places.{Going, refused_here, cut_short, ended_well}
+use Rattle.expr_parser.proofs.Places.{refused_here, cut_short, ended_well}
 use Rattle.expr_parser.proofs.reading.read.Goals as goal
 
 nothing_left : (ts : List Terminal) → length ts ≡ 0 → ts ≡ []

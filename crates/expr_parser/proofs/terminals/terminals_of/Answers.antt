@@ -1,6 +1,5 @@
-use Rattle.std.proofs.Common.{◌≡◌, List, [], drop, subst, append-nil}
+use Rattle.std.proofs.Common.{◌≡◌, [], drop, subst, append-nil}
 use Rattle.std.proofs.lemmas.List.{drop_all}
-use Rattle.edge_base.specs.declared.terminal.Terminal.{Terminal}
 use Rattle.edge_base.specs.Token.{words_of}
 use Rattle.edge_base.specs.Terminal.{AreTerminals}
 use Rattle.expr_parser.proofs.terminals.terminals_of.Goals as goal

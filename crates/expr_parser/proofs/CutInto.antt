@@ -1,0 +1,100 @@
+-- A text that falls into tokens of some terminals has a cut whose tokens are these terminals.
+use Rattle.std.proofs.Common.{◌≡◌, ℕ, suc, ◌+◌, ◌-◌, ◌≤◌, true, List, [], ◌∷◌, ◌++◌, length, take, drop, IsTrue, refl, ap, ◌∙◌, sym, subst, arith, append_assoc, append-nil}
+use Rattle.std.proofs.Common.{length-append}
+use Rattle.std.specs.List.{list_all, between}
+use Rattle.edge_base.specs.declared.terminal.Terminal.{Terminal}
+use Rattle.edge_base.specs.declared.token.Token.{Token}
+use Rattle.edge_base.specs.declared.token.TokenKind.{TokenKind}
+use Rattle.edge_base.specs.Token.{is_blank, words_of}
+use Rattle.edge_base.specs.Cut.{IsLongest, IsTokenAt, IsCutBetween, IsCut, may_stand_before}
+use Rattle.edge_base.specs.Terminal.{IsTerminalOf, AreTerminals}
+use Rattle.expr_parser.proofs.Written.{StandsFor, IsCutInto, cut_end, cut_blank, cut_token}
+
+-- what a cut of the rest of a text gives
+pub record HasCut (text : List ℕ) (start : ℕ) (ts : List Terminal) : Type 0 where
+  pub tokens : List Token
+  pub is_cut : IsCutBetween text start (length text) tokens
+  pub are_terminals : AreTerminals (words_of text tokens) ts
+
+drop_front : (before text : List ℕ) → drop (length before) (before ++ text) ≡ text
+drop_front [] text = refl
+drop_front (byte ∷ before) text = drop_front before text
+
+take_front : (text rest : List ℕ) → take (length text) (text ++ rest) ≡ text
+take_front [] rest = refl
+take_front (byte ∷ text) rest = ap (λ v. byte ∷ v) (take_front text rest)
+
+-- the bytes from the end of a front on
+between_behind : (before text : List ℕ) (start end size : ℕ) → start ≡ length before → end - start ≡ size → between start end (before ++ text) ≡ take size text
+between_behind before text start end size h k = ap (λ n. take n (drop start (before ++ text))) k ∙ ap (λ n. take size (drop n (before ++ text))) h ∙ ap (λ v. take size v) (drop_front before text)
+
+none_between : (text : List ℕ) (start : ℕ) → list_all is_blank (between start start text) ≡ true
+none_between text start = (let nothing : start - start ≡ 0 = omega arith in ap (λ n. list_all is_blank (take n (drop start text))) nothing)
+
+-- a blank before a run of blanks
+blank_before : (before rest : List ℕ) (start end : ℕ) → start ≡ length before → start + 1 ≤ end → list_all is_blank (between (start + 1) end (before ++ 32 ∷ rest)) ≡ true → list_all is_blank (between start end (before ++ 32 ∷ rest)) ≡ true
+blank_before before rest start end h less all =
+    let more : before ++ 32 ∷ rest ≡ (before ++ 32 ∷ []) ++ rest = sym (append_assoc before (32 ∷ []) rest) in
+    let behind : start + 1 ≡ length (before ++ 32 ∷ []) = simp length-append (omega (arith, h)) in
+    let later : between (start + 1) end (before ++ 32 ∷ rest) ≡ take (end - (start + 1)) rest =
+    ap (λ v. between (start + 1) end v) more ∙ between_behind (before ++ 32 ∷ []) rest (start + 1) end (end - (start + 1)) behind refl in
+    let here : between start end (before ++ 32 ∷ rest) ≡ take (suc (end - (start + 1))) (32 ∷ rest) = between_behind before (32 ∷ rest) start end (suc (end - (start + 1))) h (omega arith) in
+    ap (λ v. list_all is_blank v) here ∙ sym (ap (λ v. list_all is_blank v) later) ∙ all
+
+cut_behind_blank : (before rest : List ℕ) (start end : ℕ) (tokens : List Token) → start ≡ length before → IsCutBetween (before ++ 32 ∷ rest) (start + 1) end tokens → IsCutBetween (before ++ 32 ∷ rest) start end tokens
+cut_behind_blank before rest start end [] h cut = (omega (arith, cut.0), blank_before before rest start end h cut.0 cut.1)
+cut_behind_blank before rest start end (token ∷ tokens) h cut = (omega (arith, cut.0), blank_before before rest start token.start h cut.0 cut.1, cut.2, cut.3)
+
+module _ (k : TokenKind) (before text rest whole : List ℕ) (t : Terminal) (stands : StandsFor k text rest t) (is : whole ≡ before ++ (text ++ rest)) where
+  abbrev here : Token
+  here = record { kind = k; start = length before; end = length before + length text }
+
+  size_here : length before + length text - length before ≡ length text
+  size_here = omega arith
+
+  from_here : drop (length before) whole ≡ text ++ rest
+  from_here = ap (λ v. drop (length before) v) is ∙ drop_front before (text ++ rest)
+
+  behind_here : drop (length before + length text) whole ≡ rest
+  behind_here =
+      let behind : length before + length text ≡ length (before ++ text) = sym (length-append before text) in
+      ap (λ v. drop (length before + length text) v) (is ∙ sym (append_assoc before text rest)) ∙ ap (λ n. drop n ((before ++ text) ++ rest)) behind ∙ drop_front (before ++ text) rest
+
+  token_here : IsTokenAt whole here
+  token_here = record {
+    in_order = omega arith;
+    is_longest = subst (λ v. IsLongest v (length before + length text - length before) k) (sym from_here) (subst (λ n. IsLongest (text ++ rest) n k) (sym size_here) stands.longest);
+    neighbour = subst (λ v. IsTrue (may_stand_before k v)) (sym behind_here) stands.neighbour;
+  }
+
+  text_here : between (length before) (length before + length text) whole ≡ text
+  text_here = ap (λ v. between (length before) (length before + length text) v) is ∙ between_behind before (text ++ rest) (length before) (length before + length text) (length text) refl size_here ∙ take_front text rest
+
+  pub with_token : {ts : List Terminal} → HasCut whole (length before + length text) ts → HasCut whole (length before) (t ∷ ts)
+  with_token later = record {
+    tokens = here ∷ later.tokens;
+    is_cut = (omega arith, none_between whole (length before), token_here, later.is_cut);
+    are_terminals = (subst (λ v. IsTerminalOf k v t) (sym text_here) stands.is_terminal, later.are_terminals);
+  }
+
+cut_behind : (before text : List ℕ) (ts : List Terminal) → IsCutInto text ts → HasCut (before ++ text) (length before) ts
+cut_behind before [] [] cut_end = record {
+  tokens = [];
+  is_cut = (simp length-append (omega arith), ap (λ v. list_all is_blank (take (length v - length before) (drop (length before) v))) (append-nil before) ∙ none_between before (length before));
+  are_terminals = tt;
+}
+cut_behind before _ _ (cut_blank {rest = rest} {ts = ts} h) =
+    let later : HasCut ((before ++ 32 ∷ []) ++ rest) (length (before ++ 32 ∷ [])) ts = cut_behind (before ++ 32 ∷ []) rest ts h in
+    let same : (before ++ 32 ∷ []) ++ rest ≡ before ++ 32 ∷ rest = append_assoc before (32 ∷ []) rest in
+    let behind : length (before ++ 32 ∷ []) ≡ length before + 1 = length-append before (32 ∷ []) in
+    let moved : HasCut (before ++ 32 ∷ rest) (length before + 1) ts = subst (λ n. HasCut (before ++ 32 ∷ rest) n ts) behind (subst (λ v. HasCut v (length (before ++ 32 ∷ [])) ts) same later) in
+    record { tokens = moved.tokens; is_cut = cut_behind_blank before rest (length before) (length (before ++ 32 ∷ rest)) moved.tokens refl moved.is_cut; are_terminals = moved.are_terminals }
+cut_behind before _ _ (cut_token {k = k} {text = text} {rest = rest} {t = t} {ts = ts} stands h) =
+    let later : HasCut ((before ++ text) ++ rest) (length (before ++ text)) ts = cut_behind (before ++ text) rest ts h in
+    let same : (before ++ text) ++ rest ≡ before ++ (text ++ rest) = append_assoc before text rest in
+    let moved : HasCut (before ++ (text ++ rest)) (length before + length text) ts = subst (λ n. HasCut (before ++ (text ++ rest)) n ts) (length-append before text) (subst (λ v. HasCut v (length (before ++ text)) ts) same later) in
+    with_token k before text rest (before ++ (text ++ rest)) t stands refl moved
+
+-- the cut of the whole text
+pub cut_of : (text : List ℕ) (ts : List Terminal) → IsCutInto text ts → (tokens : List Token) × IsCut text tokens × AreTerminals (words_of text tokens) ts
+cut_of text ts h = (let found = cut_behind [] text ts h in (found.tokens, found.is_cut, found.are_terminals))
