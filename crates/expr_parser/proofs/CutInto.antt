@@ -1,6 +1,7 @@
 -- A text that falls into tokens of some terminals has a cut whose tokens are these terminals.
 use Rattle.std.proofs.Common.{◌≡◌, ℕ, suc, ◌+◌, ◌-◌, ◌≤◌, true, List, [], ◌∷◌, ◌++◌, length, take, drop, IsTrue, refl, ap, ◌∙◌, sym, subst, arith, append_assoc, append-nil}
 use Rattle.std.proofs.Common.{length-append}
+use Rattle.std.proofs.lemmas.Bool.{and_from}
 use Rattle.std.specs.List.{list_all, between}
 use Rattle.edge_base.specs.declared.terminal.Terminal.{Terminal}
 use Rattle.edge_base.specs.declared.token.Token.{Token}
@@ -32,18 +33,18 @@ none_between : (text : List ℕ) (start : ℕ) → list_all is_blank (between st
 none_between text start = (let nothing : start - start ≡ 0 = omega arith in ap (λ n. list_all is_blank (take n (drop start text))) nothing)
 
 -- a blank before a run of blanks
-blank_before : (before rest : List ℕ) (start end : ℕ) → start ≡ length before → start + 1 ≤ end → list_all is_blank (between (start + 1) end (before ++ 32 ∷ rest)) ≡ true → list_all is_blank (between start end (before ++ 32 ∷ rest)) ≡ true
-blank_before before rest start end h less all =
-    let more : before ++ 32 ∷ rest ≡ (before ++ 32 ∷ []) ++ rest = sym (append_assoc before (32 ∷ []) rest) in
-    let behind : start + 1 ≡ length (before ++ 32 ∷ []) = simp length-append (omega (arith, h)) in
-    let later : between (start + 1) end (before ++ 32 ∷ rest) ≡ take (end - (start + 1)) rest =
-    ap (λ v. between (start + 1) end v) more ∙ between_behind (before ++ 32 ∷ []) rest (start + 1) end (end - (start + 1)) behind refl in
-    let here : between start end (before ++ 32 ∷ rest) ≡ take (suc (end - (start + 1))) (32 ∷ rest) = between_behind before (32 ∷ rest) start end (suc (end - (start + 1))) h (omega arith) in
-    ap (λ v. list_all is_blank v) here ∙ sym (ap (λ v. list_all is_blank v) later) ∙ all
+blank_before : (before rest : List ℕ) (byte start end : ℕ) → is_blank byte ≡ true → start ≡ length before → start + 1 ≤ end → list_all is_blank (between (start + 1) end (before ++ byte ∷ rest)) ≡ true → list_all is_blank (between start end (before ++ byte ∷ rest)) ≡ true
+blank_before before rest byte start end blank h less all =
+    let more : before ++ byte ∷ rest ≡ (before ++ byte ∷ []) ++ rest = sym (append_assoc before (byte ∷ []) rest) in
+    let behind : start + 1 ≡ length (before ++ byte ∷ []) = simp length-append (omega (arith, h)) in
+    let later : between (start + 1) end (before ++ byte ∷ rest) ≡ take (end - (start + 1)) rest =
+    ap (λ v. between (start + 1) end v) more ∙ between_behind (before ++ byte ∷ []) rest (start + 1) end (end - (start + 1)) behind refl in
+    let here : between start end (before ++ byte ∷ rest) ≡ take (suc (end - (start + 1))) (byte ∷ rest) = between_behind before (byte ∷ rest) start end (suc (end - (start + 1))) h (omega arith) in
+    ap (λ v. list_all is_blank v) here ∙ and_from _ _ blank (sym (ap (λ v. list_all is_blank v) later) ∙ all)
 
-cut_behind_blank : (before rest : List ℕ) (start end : ℕ) (tokens : List Token) → start ≡ length before → IsCutBetween (before ++ 32 ∷ rest) (start + 1) end tokens → IsCutBetween (before ++ 32 ∷ rest) start end tokens
-cut_behind_blank before rest start end [] h cut = (omega (arith, cut.0), blank_before before rest start end h cut.0 cut.1)
-cut_behind_blank before rest start end (token ∷ tokens) h cut = (omega (arith, cut.0), blank_before before rest start token.start h cut.0 cut.1, cut.2, cut.3)
+cut_behind_blank : (before rest : List ℕ) (byte start end : ℕ) (tokens : List Token) → is_blank byte ≡ true → start ≡ length before → IsCutBetween (before ++ byte ∷ rest) (start + 1) end tokens → IsCutBetween (before ++ byte ∷ rest) start end tokens
+cut_behind_blank before rest byte start end [] blank h cut = (omega (arith, cut.0), blank_before before rest byte start end blank h cut.0 cut.1)
+cut_behind_blank before rest byte start end (token ∷ tokens) blank h cut = (omega (arith, cut.0), blank_before before rest byte start token.start blank h cut.0 cut.1, cut.2, cut.3)
 
 module _ (k : TokenKind) (before text rest whole : List ℕ) (t : Terminal) (stands : StandsFor k text rest t) (is : whole ≡ before ++ (text ++ rest)) where
   abbrev here : Token
@@ -83,12 +84,12 @@ cut_behind before [] [] cut_end = record {
   is_cut = (simp length-append (omega arith), ap (λ v. list_all is_blank (take (length v - length before) (drop (length before) v))) (append-nil before) ∙ none_between before (length before));
   are_terminals = tt;
 }
-cut_behind before _ _ (cut_blank {rest = rest} {ts = ts} h) =
-    let later : HasCut ((before ++ 32 ∷ []) ++ rest) (length (before ++ 32 ∷ [])) ts = cut_behind (before ++ 32 ∷ []) rest ts h in
-    let same : (before ++ 32 ∷ []) ++ rest ≡ before ++ 32 ∷ rest = append_assoc before (32 ∷ []) rest in
-    let behind : length (before ++ 32 ∷ []) ≡ length before + 1 = length-append before (32 ∷ []) in
-    let moved : HasCut (before ++ 32 ∷ rest) (length before + 1) ts = subst (λ n. HasCut (before ++ 32 ∷ rest) n ts) behind (subst (λ v. HasCut v (length (before ++ 32 ∷ [])) ts) same later) in
-    record { tokens = moved.tokens; is_cut = cut_behind_blank before rest (length before) (length (before ++ 32 ∷ rest)) moved.tokens refl moved.is_cut; are_terminals = moved.are_terminals }
+cut_behind before _ _ (cut_blank {byte = byte} {rest = rest} {ts = ts} blank h) =
+    let later : HasCut ((before ++ byte ∷ []) ++ rest) (length (before ++ byte ∷ [])) ts = cut_behind (before ++ byte ∷ []) rest ts h in
+    let same : (before ++ byte ∷ []) ++ rest ≡ before ++ byte ∷ rest = append_assoc before (byte ∷ []) rest in
+    let behind : length (before ++ byte ∷ []) ≡ length before + 1 = length-append before (byte ∷ []) in
+    let moved : HasCut (before ++ byte ∷ rest) (length before + 1) ts = subst (λ n. HasCut (before ++ byte ∷ rest) n ts) behind (subst (λ v. HasCut v (length (before ++ byte ∷ [])) ts) same later) in
+    record { tokens = moved.tokens; is_cut = cut_behind_blank before rest byte (length before) (length (before ++ byte ∷ rest)) moved.tokens blank refl moved.is_cut; are_terminals = moved.are_terminals }
 cut_behind before _ _ (cut_token {k = k} {text = text} {rest = rest} {t = t} {ts = ts} stands h) =
     let later : HasCut ((before ++ text) ++ rest) (length (before ++ text)) ts = cut_behind (before ++ text) rest ts h in
     let same : (before ++ text) ++ rest ≡ before ++ (text ++ rest) = append_assoc before text rest in

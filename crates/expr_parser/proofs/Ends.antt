@@ -6,7 +6,7 @@ use Rattle.std.proofs.lemmas.List.Folds.{list_all-append}
 use Rattle.std.specs.List.{list_all}
 use Rattle.edge_base.specs.declared.terminal.Terminal.{Terminal}
 use Rattle.edge_base.specs.declared.token.TokenKind.{TokenKind}
-use Rattle.edge_base.specs.Token.{is_digit, is_name_start, is_name_byte, is_word_byte, IsTokenOf}
+use Rattle.edge_base.specs.Token.{is_blank, is_digit, is_name_start, is_name_byte, is_word_byte, IsTokenOf}
 use Rattle.edge_base.specs.Cut.{IsLongest, stands_apart, may_stand_before}
 use Rattle.edge_base.specs.Terminal.{IsTerminalOf}
 use Rattle.expr_lexer.specs.declared.scanner.State.{State}
@@ -18,13 +18,25 @@ use Rattle.expr_parser.proofs.BlockBytes.{is_block_byte, is_first_byte, BeginsAs
 use Rattle.expr_parser.proofs.LongestWhere.{EndsThere, longest_where, read_no_further}
 use Rattle.expr_parser.proofs.Written.{is_end_byte, ends_before, StandsFor}
 
-end_cases : (P : ℕ → Type 0) (byte : ℕ) → is_end_byte byte ≡ true → P 32 → P 40 → P 41 → P 44 → P 91 → P 93 → P byte
-end_cases P byte h p32 p40 p41 p44 p91 p93 = elim (or_cases _ (byte == 93) h) [
+blank_cases : (P : ℕ → Type 0) (byte : ℕ) → is_blank byte ≡ true → P 32 → P 9 → P 13 → P 10 → P byte
+blank_cases P byte h p32 p9 p13 p10 = elim (or_cases _ (byte == 10) h) [
+  | inl h2 ↦ elim (or_cases _ (byte == 13) h2) [
+    | inl h1 ↦ elim (or_cases _ (byte == 9) h1) [
+      | inl h0 ↦ subst P (sym (eqb-true byte 32 h0)) p32
+      | inr here ↦ subst P (sym (eqb-true byte 9 here)) p9
+    ]
+    | inr here ↦ subst P (sym (eqb-true byte 13 here)) p13
+  ]
+  | inr here ↦ subst P (sym (eqb-true byte 10 here)) p10
+]
+
+end_cases : (P : ℕ → Type 0) (byte : ℕ) → is_end_byte byte ≡ true → P 32 → P 9 → P 13 → P 10 → P 40 → P 41 → P 44 → P 91 → P 93 → P byte
+end_cases P byte h p32 p9 p13 p10 p40 p41 p44 p91 p93 = elim (or_cases _ (byte == 93) h) [
   | inl h4 ↦ elim (or_cases _ (byte == 91) h4) [
     | inl h3 ↦ elim (or_cases _ (byte == 44) h3) [
       | inl h2 ↦ elim (or_cases _ (byte == 41) h2) [
         | inl h1 ↦ elim (or_cases _ (byte == 40) h1) [
-          | inl h0 ↦ subst P (sym (eqb-true byte 32 h0)) p32
+          | inl h0 ↦ blank_cases P byte h0 p32 p9 p13 p10
           | inr here ↦ subst P (sym (eqb-true byte 40 here)) p40
         ]
         | inr here ↦ subst P (sym (eqb-true byte 41 here)) p41
@@ -42,11 +54,11 @@ no_kind : (from : State) (k : TokenKind) (byte : ℕ) → ◌≡◌ {A = Option 
 no_kind from k byte h = absurd (cc)
 
 stops_at_end : (k : TokenKind) (byte : ℕ) → is_end_byte byte ≡ true → (from : State) → kind_in from ≡ Some k → next_of from byte ≡ None
-stops_at_end k byte ends state.Letter h = end_cases (λ (b : ℕ). next_of state.Letter b ≡ None) byte ends refl refl refl refl refl refl
-stops_at_end k byte ends state.Part h = end_cases (λ (b : ℕ). next_of state.Part b ≡ None) byte ends refl refl refl refl refl refl
-stops_at_end k byte ends (state.Digits most size) h = end_cases (λ (b : ℕ). next_of (state.Digits most size) b ≡ None) byte ends refl refl refl refl refl refl
-stops_at_end k byte ends state.ListName h = end_cases (λ (b : ℕ). next_of state.ListName b ≡ None) byte ends refl refl refl refl refl refl
-stops_at_end k byte ends state.Comparison h = end_cases (λ (b : ℕ). next_of state.Comparison b ≡ None) byte ends refl refl refl refl refl refl
+stops_at_end k byte ends state.Letter h = end_cases (λ (b : ℕ). next_of state.Letter b ≡ None) byte ends refl refl refl refl refl refl refl refl refl
+stops_at_end k byte ends state.Part h = end_cases (λ (b : ℕ). next_of state.Part b ≡ None) byte ends refl refl refl refl refl refl refl refl refl
+stops_at_end k byte ends (state.Digits most size) h = end_cases (λ (b : ℕ). next_of (state.Digits most size) b ≡ None) byte ends refl refl refl refl refl refl refl refl refl
+stops_at_end k byte ends state.ListName h = end_cases (λ (b : ℕ). next_of state.ListName b ≡ None) byte ends refl refl refl refl refl refl refl refl refl
+stops_at_end k byte ends state.Comparison h = end_cases (λ (b : ℕ). next_of state.Comparison b ≡ None) byte ends refl refl refl refl refl refl refl refl refl
 stops_at_end k byte ends (state.Whole token_kind) h = refl
 stops_at_end k byte ends state.Start h = no_kind state.Start k byte h
 stops_at_end k byte ends state.Bits h = no_kind state.Bits k byte h
@@ -101,12 +113,12 @@ bare_leads (state.Closing marks left) byte h = absurd (cc)
 bare_leads state.Dollar byte h = absurd (cc)
 
 half_stops : (first byte : ℕ) → (first == 46) ≡ true → is_end_byte byte ≡ true → (byte == first) ≡ false
-half_stops first byte h ends = rw (eqb-true first 46 h) (end_cases (λ (b : ℕ). (b == 46) ≡ false) byte ends refl refl refl refl refl refl)
+half_stops first byte h ends = rw (eqb-true first 46 h) (end_cases (λ (b : ℕ). (b == 46) ≡ false) byte ends refl refl refl refl refl refl refl refl refl)
 
 bare_stops : (from : State) (byte : ℕ) → is_bare from ≡ true → is_end_byte byte ≡ true → next_of from byte ≡ None
-bare_stops state.Part byte h ends = end_cases (λ (b : ℕ). next_of state.Part b ≡ None) byte ends refl refl refl refl refl refl
-bare_stops state.Dot byte h ends = end_cases (λ (b : ℕ). next_of state.Dot b ≡ None) byte ends refl refl refl refl refl refl
-bare_stops (state.Digits most size) byte h ends = end_cases (λ (b : ℕ). next_of (state.Digits most size) b ≡ None) byte ends refl refl refl refl refl refl
+bare_stops state.Part byte h ends = end_cases (λ (b : ℕ). next_of state.Part b ≡ None) byte ends refl refl refl refl refl refl refl refl refl
+bare_stops state.Dot byte h ends = end_cases (λ (b : ℕ). next_of state.Dot b ≡ None) byte ends refl refl refl refl refl refl refl refl refl
+bare_stops (state.Digits most size) byte h ends = end_cases (λ (b : ℕ). next_of (state.Digits most size) b ≡ None) byte ends refl refl refl refl refl refl refl refl refl
 bare_stops (state.Whole token_kind) byte h ends = refl
 bare_stops (state.Half first) byte h ends = rw (half_stops first byte h ends) refl
 bare_stops state.Letter byte h ends = absurd (cc)
@@ -168,7 +180,7 @@ address_reads_none (first ∷ text) byte more begins ends =
 -- ---- no token goes on past one before an end byte
 
 end_is_no_block_byte : (byte : ℕ) → is_end_byte byte ≡ true → is_block_byte byte ≡ false
-end_is_no_block_byte byte ends = end_cases (λ (b : ℕ). is_block_byte b ≡ false) byte ends refl refl refl refl refl refl
+end_is_no_block_byte byte ends = end_cases (λ (b : ℕ). is_block_byte b ≡ false) byte ends refl refl refl refl refl refl refl refl refl
 
 unread_past : (k : TokenKind) (text : List ℕ) (byte : ℕ) (more : List ℕ) → IsTokenOf k text → is_end_byte byte ≡ true → kind_from state.Start (text ++ byte ∷ more) ≡ None
 unread_past k text byte more token ends = elim (cases_Bool (is_scanned k)) [
@@ -199,7 +211,7 @@ apart false other h = refl
 pub may_stand_before_end : (k : TokenKind) (rest : List ℕ) → ends_before rest ≡ true → may_stand_before k rest ≡ true
 may_stand_before_end k [] ends = refl
 may_stand_before_end k (byte ∷ rest) ends =
-    apart (stands_apart k) (is_word_byte byte) (end_cases (λ (b : ℕ). is_word_byte b ≡ false) byte ends refl refl refl refl refl refl)
+    apart (stands_apart k) (is_word_byte byte) (end_cases (λ (b : ℕ). is_word_byte b ≡ false) byte ends refl refl refl refl refl refl refl refl refl)
 
 pub stands_before_end : (k : TokenKind) (text rest : List ℕ) (t : Terminal) → IsTokenOf k text → IsTerminalOf k text t → ends_before rest ≡ true → StandsFor k text rest t
 stands_before_end k text rest t token stands ends = record {

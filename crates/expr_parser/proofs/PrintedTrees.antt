@@ -44,7 +44,7 @@ sign : (byte : ℕ) (t : Terminal) → ((rest : List ℕ) → StandsFor kind.Sym
 sign byte t stands rest us ends cut = cut_token (stands rest) cut
 
 blank : (text : List ℕ) (ts : List Terminal) → IsWritten text ts → IsWritten (32 ∷ text) ts
-blank text ts h rest us ends cut = cut_blank (h rest us ends cut)
+blank text ts h rest us ends cut = cut_blank refl (h rest us ends cut)
 
 regrouped : (a b rest : List ℕ) (ts us vs : List Terminal) → IsCutInto (a ++ (b ++ rest)) (ts ++ (us ++ vs)) → IsCutInto ((a ++ b) ++ rest) ((ts ++ us) ++ vs)
 regrouped a b rest ts us vs h =
@@ -178,7 +178,7 @@ AreWritten is = (rest : List ℕ) (us : List Terminal) → IsCutInto rest us →
 
 item_before : (i : Item) (is : List Item) → IsWritten (item_spelling i) (item_terminals i) → AreWritten is → AreWritten (i ∷ is)
 item_before i is h later rest us cut =
-    regrouped (item_spelling i) (32 ∷ items_spelling is) rest (item_terminals i) (items_terminals is) us (h (32 ∷ items_spelling is ++ rest) (items_terminals is ++ us) refl (cut_blank (later rest us cut)))
+    regrouped (item_spelling i) (32 ∷ items_spelling is) rest (item_terminals i) (items_terminals is) us (h (32 ∷ items_spelling is ++ rest) (items_terminals is ++ us) refl (cut_blank refl (later rest us cut)))
 
 items_written : {ts : List Terminal} {is : List Item} → IsItems ts is → AreSound ts → AreWritten is
 items_written (one_item {i = i} d) sound = item_before i [] (item_written d sound) (λ rest us cut. cut)
