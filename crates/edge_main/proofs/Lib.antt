@@ -1,4 +1,5 @@
 pub mod DeploymentLemmas
+pub mod FormLemmas
 pub mod OutputLemmas
 pub mod RunLemmas
 pub mod RunningLemmas

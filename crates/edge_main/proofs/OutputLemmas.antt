@@ -1,9 +1,9 @@
 -- Each input has one output.
-use Rattle.std.proofs.Common.{◌≡◌, ℕ, List, [], ◌∷◌, ◌++◌, Option, Some, None, refl, sym, ap, subst, ◌∙◌, ◌⊎◌, inl, inr}
+use Rattle.std.proofs.Common.{◌≡◌, ℕ, List, [], ◌∷◌, ◌++◌, Option, Some, None, refl, sym, ap, subst, ◌∙◌, inl, inr}
 use Rattle.serde_json.specs.Data.{Data}
 use Rattle.edge_base.specs.declared.message.Request.{Request}
 use Rattle.edge_outside.specs.Lines.{lines_of}
-use Rattle.trace_form.specs.Item.{IsBlank, IsDeploy, IsAsk, IsNoItem}
+use Rattle.trace_form.specs.Item.{IsBlank, IsDeploy, IsAsk}
 use Rattle.trace_form.proofs.ItemLemmas.{IsDeploy-unique, IsAsk-unique, blank-not_deploy, blank-not_ask, deploy-not_ask, Kind, kind-found}
 use Rattle.trace_form.proofs.ItemLemmas as kind
 use Rattle.edge_main.specs.declared.deployment.Deployed.{Deployed}

@@ -1,5 +1,5 @@
 -- A line is answered, whatever it is.
-use Rattle.std.proofs.Common.{◌≡◌, ℕ, List, [], true, false, Option, Some, None, Result, Ok, Err, OnOk, refl, sym, ◌∙◌, inl, inr}
+use Rattle.std.proofs.Common.{◌≡◌, ℕ, List, [], true, false, Option, Some, None, Result, Ok, Err, OnOk, sym, ◌∙◌, inl, inr}
 use Rattle.serde_json.specs.Data.{Data}
 use Rattle.edge_base.specs.declared.message.Request.{Request}
 use Rattle.trace_form.specs.Item.{IsBlank, IsDeploy, IsAsk}

@@ -1,5 +1,5 @@
 -- How a run goes on, and what it has written where it ends.
-use Rattle.std.proofs.Common.{◌≡◌, ℕ, ◌+◌, ◌<◌, ◌≤◌, Bool, true, false, cond, List, [], ◌∷◌, ◌++◌, length, take, drop, Option, Some, None, refl, sym, ap, subst, ◌∙◌, ◌⊎◌, inl, inr, append_assoc, append-nil, take-append-drop}
+use Rattle.std.proofs.Common.{◌≡◌, ℕ, Bool, true, false, cond, List, [], ◌∷◌, ◌++◌, take, drop, Option, Some, refl, sym, ap, subst, ◌∙◌, inl, inr, append_assoc, append-nil, take-append-drop}
 use Rattle.std.specs.Io.KnownBytes.{Appends}
 use Rattle.std.proofs.KnownBytes.{Appends-trans, Appends-nil}
 use Rattle.edge_outside.specs.declared.line_reader.LineReader.{LineReader}
@@ -11,8 +11,8 @@ use Rattle.edge_main.specs.declared.statuses.Status.TheVariants as status
 use Rattle.edge_main.specs.declared.replay.Replay.{Replay}
 use Rattle.edge_main.specs.declared.replay.Turn.{Turn}
 use Rattle.edge_main.specs.declared.replay.Turn.TheVariants as turn
-use Rattle.edge_main.specs.Output.{State, Step, Outputs, IsOutput, IsBad, AnyBad}
-use Rattle.edge_main.specs.Running.{state_of, Answered, GaveOf, LineOf, Progress, TurnOf, WroteBut, WroteOutput, WroteFrontBut, WroteFront, Closing, Ended, IsOpening}
+use Rattle.edge_main.specs.Output.{Step, Outputs, IsOutput, AnyBad}
+use Rattle.edge_main.specs.Running.{state_of, LineOf, Progress, TurnOf, WroteBut, WroteOutput, WroteFrontBut, WroteFront, Closing, Ended, IsOpening}
 use Rattle.edge_main.specs.Statuses.{after_write_fault}
 use Rattle.edge_main.proofs.OutputLemmas.{some_output}
 

@@ -1,5 +1,5 @@
 -- The verdict on a request under what is in force.
-use Rattle.std.specs.Prelude.{ℕ, ◌∷◌, ◌++◌, [], codes, Bool, true, false, cond, Option, Some, None}
+use Rattle.std.specs.Prelude.{◌∷◌, ◌++◌, [], codes, Bool, cond, Option, Some, None}
 use Rattle.std.specs.Str.{bytes_eq}
 use Rattle.edge_base.specs.declared.message.Request.{Request}
 use Rattle.edge_fields.specs.Target.{path_of}

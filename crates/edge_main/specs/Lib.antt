@@ -1,5 +1,6 @@
 pub mod Deployment
 pub mod Form
+pub mod FormTree
 pub mod Judging
 pub mod Output
 pub mod Running

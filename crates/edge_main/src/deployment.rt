@@ -4,7 +4,7 @@ ghost use Rattle.serde_json.specs.View.{view, items_view};
 ghost use Rattle.trace_form.specs.Members.{has_members};
 ghost use Rattle.edge_main.specs.Deployment.{is_id_byte, is_id, is_text, id_of, at_most_one, only_of, rule_of, rules_of, is_taken_set, set_of, sets_of, deployed_of};
 
-use crate::form::form_of;
+use crate::form::compared_path;
 use edge_base::{Memory, RuleName, Text};
 use serde_json::Value;
 use std::alloc::Global;
@@ -96,14 +96,13 @@ fn rule_of(alloc: Global, set_id: &[u8], value: &Value) -> Result<Option<PathRul
     let Some(expression) = text_of(value, "expression") else {
         return Ok(None);
     };
-    let Some(path) = form_of(expression) else {
+    let Some(path) = compared_path(alloc, expression)? else {
         return Ok(None);
     };
     let name = RuleName {
         set_id: Text::of(alloc, set_id)?,
         rule: Text::of(alloc, id)?,
     };
-    let path = Text::of(alloc, path)?;
     Ok(Some(PathRule { name, path }))
 }
 

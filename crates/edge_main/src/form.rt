@@ -1,6 +1,11 @@
-ghost use Rattle.std.specs.Prelude.{◌≡◌, ◌≤◌, length, option_map};
+ghost use Rattle.std.specs.Prelude.{◌≡◌, ◌≤◌, length, IfOk, IsSome, Some, option_map};
 ghost use Rattle.std.specs.List.{prefix_len};
 ghost use Rattle.edge_main.specs.Form.{is_blank, is_path_byte, after, after_blanks, after_some_blanks, quoted, path_compared, form_of};
+ghost use Rattle.edge_main.specs.FormTree.{path_test, IsPathTest};
+
+use edge_base::{Expr, Lit, Memory, Test, Text};
+use expr_parser::{ParseFault, answers_are_unique, parse};
+use std::alloc::Global;
 
 /// The longest expression, in bytes.
 const MAX_LENGTH: usize = 4096;
@@ -87,12 +92,55 @@ fn path_compared(text: &[u8]) -> Option<&[u8]>
 }
 
 /// The path that an expression compares with, where it has the one form. Takes no memory.
-pub fn form_of(text: &[u8]) -> Option<&[u8]>
+fn form_of(text: &[u8]) -> Option<&[u8]>
     ensures { option_map (λ path. path.now) result ≡ form_of text.now }
 {
     if text.len() <= MAX_LENGTH {
         path_compared(text)
     } else {
         None
+    }
+}
+
+/// The tree of a text of the form, which `parse` refuses for want of memory alone.
+fn tree_of(alloc: Global, text: &[u8]) -> Result<Expr, Memory>
+    requires { IsSome (form_of text.now) }
+    ensures { IfOk result (λ tree. Some tree ≡ option_map path_test (form_of text.now)) }
+{
+    answers_are_unique();
+    match parse(alloc, text) {
+        Ok(tree) => Ok(tree),
+        Err(ParseFault::Memory) => Err(Memory),
+        Err(ParseFault::TooLong) => unreachable!(),
+        Err(ParseFault::Lex { .. }) => unreachable!(),
+        Err(ParseFault::Syntax { .. }) => unreachable!(),
+        Err(ParseFault::TooDeep) => unreachable!(),
+    }
+}
+
+/// The path with which a tree of the form compares.
+fn path_in(tree: Expr) -> Text
+    requires { IsPathTest tree }
+    ensures { path_test result ≡ tree }
+{
+    let Expr::Test(_, test) = tree else {
+        unreachable!()
+    };
+    let Test::Order(_, literal) = test else {
+        unreachable!()
+    };
+    let Lit::Text(path) = literal else {
+        unreachable!()
+    };
+    path
+}
+
+/// The path that an expression of the one form compares with, as its tree has it.
+pub fn compared_path(alloc: Global, text: &[u8]) -> Result<Option<Text>, Memory>
+    ensures { IfOk result (λ path. path ≡ form_of text.now) }
+{
+    match form_of(text) {
+        None => Ok(None),
+        Some(_) => Ok(Some(path_in(tree_of(alloc, text)?))),
     }
 }

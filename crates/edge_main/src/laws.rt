@@ -1,4 +1,5 @@
 ghost use Rattle.edge_main.specs.Output.{OutputsAreUnique, EveryInputHasAnOutput};
+ghost use Rattle.edge_main.specs.FormTree.{FormsAreRead};
 
 /// An input has at most one output.
 pub fn outputs_are_unique()
@@ -8,4 +9,9 @@ pub fn outputs_are_unique()
 /// Each input has an output.
 pub fn every_input_has_an_output()
     ensures { EveryInputHasAnOutput }
+{}
+
+/// In the Rules language each text of the form that is taken is an expression, with the form's tree.
+pub fn forms_are_read()
+    ensures { FormsAreRead }
 {}
