@@ -1,6 +1,6 @@
 -- The bytes of an address text: which they are, how many, and what tells it from names and numbers.
-use Rattle.std.proofs.Common.{◌≡◌, ℕ, ◌+◌, ◌*◌, ◌<◌, ◌≤◌, ◌⊎◌, Bool, true, false, cond, ◌==◌, List, [], ◌∷◌, ◌++◌, length, codes, decimal, IsTrue, inl, inr, refl, sym, ◌∙◌, ap, subst, arith, length-append}
-use Rattle.std.proofs.lemmas.Bool.{and_parts, and_from, or_left, or_right}
+use Rattle.std.proofs.Common.{◌≡◌, ℕ, ◌+◌, ◌*◌, ◌<◌, ◌≤◌, ◌⊎◌, Bool, true, false, cond, ◌==◌, List, [], ◌∷◌, ◌++◌, length, codes, decimal, IsTrue, inl, inr, refl, sym, ◌∙◌, ap, subst, arith, length-append, append_assoc}
+use Rattle.std.proofs.lemmas.Bool.{or_left, or_right}
 use Rattle.std.proofs.lemmas.Bool.Decides.{nat_tests}
 use Rattle.std.proofs.lemmas.Fmt.{decimal_is_IsNumeral, length-decimal-le}
 use Rattle.std.proofs.lemmas.List.Folds.{list_all-append, list_any-append}
@@ -8,15 +8,12 @@ use Rattle.std.specs.Char.{digit_value}
 use Rattle.std.specs.List.{list_all, list_any}
 use Rattle.std.specs.Net.Addr.{segments_of}
 use Rattle.std.specs.Net.Grammar.{IsDotted, IsGroup, IsGroupsAfter, IsGroups, IsElided, IsColonHex}
-use Rattle.std.specs.Str.Parse.{AllDigits}
 use Rattle.edge_base.specs.declared.address.Addr.{Addr}
 use Rattle.edge_base.specs.declared.address.Addr.TheVariants as addr
 use Rattle.edge_base.specs.Address.{IsAddrText}
 use Rattle.edge_base.specs.Token.{is_digit}
 use Rattle.expr_lexer.specs.Scan.{is_address_byte}
-
-decimal_byte : (byte : ℕ) → digit_value byte < 10 → is_digit byte ≡ true
-decimal_byte byte below = grind (arith, nat_tests)
+use Rattle.expr_lexer.proofs.ByteLemmas.{begins_with, begins-append, all_by, begins_from_all, all_from_digits, all_digits}
 
 hex_byte : (byte : ℕ) → digit_value byte < 16 → is_address_byte byte ≡ true
 hex_byte byte below = grind (arith, nat_tests)
@@ -24,53 +21,27 @@ hex_byte byte below = grind (arith, nat_tests)
 digit_byte : (byte : ℕ) → is_digit byte ≡ true → is_address_byte byte ≡ true
 digit_byte byte digit = rw digit refl
 
-all_digits : (text : List ℕ) → AllDigits 10 text → list_all is_digit text ≡ true
-all_digits [] h = refl
-all_digits (byte ∷ text) h = and_from _ _ (decimal_byte byte h.0) (all_digits text h.1)
-
-all_hex : (text : List ℕ) → AllDigits 16 text → list_all is_address_byte text ≡ true
-all_hex [] h = refl
-all_hex (byte ∷ text) h = and_from _ _ (hex_byte byte h.0) (all_hex text h.1)
-
-digits_are_bytes : (text : List ℕ) → list_all is_digit text ≡ true → list_all is_address_byte text ≡ true
-digits_are_bytes [] h = refl
-digits_are_bytes (byte ∷ text) h = let both : (is_digit byte ≡ true) × (list_all is_digit text ≡ true) = and_parts _ _ h in
-    and_from _ _ (digit_byte byte both.0) (digits_are_bytes text both.1)
-
--- the first byte is a digit
-abbrev pub BeginsWithDigit : List ℕ → Type 0
-BeginsWithDigit [] = ⊥
-BeginsWithDigit (byte ∷ text) = is_digit byte ≡ true
-
-begins : (text : List ℕ) → 0 < length text → list_all is_digit text ≡ true → BeginsWithDigit text
-begins [] long h = absurd (omega arith)
-begins (byte ∷ text) long h = (and_parts _ _ h).0
-
-begins-append : (text more : List ℕ) → BeginsWithDigit text → BeginsWithDigit (text ++ more)
-begins-append [] more h = absurd h
-begins-append (byte ∷ text) more h = h
-
 -- an octet in decimal
 record Octet (n : ℕ) : Type 0 where
   bytes : list_all is_address_byte (decimal n) ≡ true
   short : length (decimal n) ≤ 3
-  first : BeginsWithDigit (decimal n)
+  first : begins_with is_digit (decimal n) ≡ true
 
 octet : (n : ℕ) → n < 256 → Octet n
 octet n below =
     let numeral = (decimal_is_IsNumeral n (omega arith)).0 in
     let digits : list_all is_digit (decimal n) ≡ true = all_digits (decimal n) numeral.1 in
     record {
-      bytes = digits_are_bytes (decimal n) digits;
+      bytes = all_by is_digit is_address_byte digit_byte (decimal n) digits;
       short = length-decimal-le 3 n (omega arith) (omega arith) (omega arith);
-      first = begins (decimal n) numeral.0 digits;
+      first = begins_from_all is_digit (decimal n) numeral.0 digits;
     }
 
-pub record IsDottedFace (text : List ℕ) : Type 0 where
-  pub bytes : list_all is_address_byte text ≡ true
-  pub short : length text ≤ 15
-  pub first : BeginsWithDigit text
-  pub dot : list_any (λ byte. byte == 46) text ≡ true
+record IsDottedFace (text : List ℕ) : Type 0 where
+  bytes : list_all is_address_byte text ≡ true
+  short : length text ≤ 15
+  first : begins_with is_digit text ≡ true
+  dot : list_any (λ byte. byte == 46) text ≡ true
 
 dotted : (text octets : List ℕ) → IsDotted text octets → IsDottedFace text
 dotted text octets h =
@@ -78,7 +49,7 @@ dotted text octets h =
     subst IsDottedFace (sym h.spelled) record {
       bytes = simp (list_all-append, one.bytes, two.bytes, three.bytes, four.bytes);
       short = simp length-append (omega (arith, one.short, two.short, three.short, four.short));
-      first = begins-append _ _ (begins-append _ _ (begins-append _ _ (begins-append _ _ (begins-append _ _ (begins-append _ _ one.first)))));
+      first = simp append_assoc (begins-append is_digit (decimal h.a) (46 ∷ (decimal h.b ++ 46 ∷ (decimal h.c ++ 46 ∷ decimal h.d))) one.first);
       dot = simp list_any-append (or_left _ _ (or_right _ _ refl));
     }
 
@@ -87,7 +58,7 @@ abbrev tail_room : Bool → ℕ
 tail_room ipv4 = cond ipv4 5 0
 
 group_bytes : (text : List ℕ) (segment : ℕ) → IsGroup text segment → list_all is_address_byte text ≡ true
-group_bytes text segment h = all_hex text h.0.0.1
+group_bytes text segment h = all_from_digits 16 is_address_byte hex_byte text h.0.0.1
 
 groups_bytes : (ipv4 : Bool) (lead text segments : List ℕ) → list_all is_address_byte lead ≡ true → IsGroupsAfter ipv4 lead text segments → list_all is_address_byte text ≡ true
 groups_bytes ipv4 lead text [] before h = rw h refl
@@ -134,10 +105,10 @@ full_has_colon text (one ∷ []) h all = absurd (omega arith)
 full_has_colon text (one ∷ two ∷ []) h all = absurd (omega arith)
 full_has_colon text (one ∷ two ∷ three ∷ segments) h all = groups_have_colon true text segments one two three h
 
-pub record IsColonFace (text : List ℕ) : Type 0 where
-  pub bytes : list_all is_address_byte text ≡ true
-  pub short : length text ≤ 45
-  pub colon : list_any is_colon text ≡ true
+record IsColonFace (text : List ℕ) : Type 0 where
+  bytes : list_all is_address_byte text ≡ true
+  short : length text ≤ 45
+  colon : list_any is_colon text ≡ true
 
 elided : (text segments : List ℕ) → IsElided text segments → IsColonFace text
 elided text segments h =
@@ -165,7 +136,7 @@ colon_hex text segments h = elim h [
 pub record IsAddressFace (text : List ℕ) : Type 0 where
   pub bytes : list_all is_address_byte text ≡ true
   pub short : length text ≤ 45
-  pub sign : (list_any is_colon text ≡ true) ⊎ (BeginsWithDigit text × (list_any (λ byte. byte == 46) text ≡ true))
+  pub sign : (list_any is_colon text ≡ true) ⊎ ((begins_with is_digit text ≡ true) × (list_any (λ byte. byte == 46) text ≡ true))
 
 pub address_face : (text : List ℕ) (a : Addr) → IsAddrText text a → IsAddressFace text
 address_face text (addr.V4 number) h = let face = dotted text _ h.1 in

@@ -1,37 +1,34 @@
 -- A text is a token of one kind at most, is not empty then, and begins with no blank.
-use Rattle.std.proofs.Common.{◌≡◌, ℕ, ◌-◌, ◌^◌, ◌⊎◌, Bool, true, false, cond, ◌&&◌, ◌||◌, nat_le, ◌==◌, List, [], ◌∷◌, ◌++◌, Option, Some, None, is_some, IsSome, codes, bytes_eq, pos, neg_ℤ, inl, inr, refl, sym, ◌∙◌, ap, subst, arith, eqb-true}
-use Rattle.std.proofs.lemmas.Bool.{cases_Bool, and_parts, and_from, or_left, or_right, or_cases, both_ways, not-true}
+use Rattle.std.proofs.Common.{◌≡◌, ℕ, ◌-◌, ◌^◌, ◌⊎◌, Bool, true, false, cond, not, ◌&&◌, ◌||◌, ◌==◌, List, [], ◌∷◌, ◌++◌, Option, Some, None, is_some, IsSome, codes, bytes_eq, pos, neg_ℤ, inl, inr, refl, sym, ◌∙◌, ap, subst, arith, eqb-true}
+use Rattle.std.proofs.lemmas.Bool.{cases_Bool, and_parts, and_from, or_left, or_right, or_cases, both_ways, not-true, true_from_ne_false}
 use Rattle.std.proofs.lemmas.Bool.Decides.{nat_tests}
 use Rattle.std.proofs.lemmas.List.Folds.{list_all-append, list_any-append}
 use Rattle.std.proofs.lemmas.Slice.Eq.{bytes_eq-Decides}
 use Rattle.std.specs.List.{list_all, list_any, before_first, after_first}
-use Rattle.std.specs.Str.Parse.{digits_value}
 use Rattle.edge_base.specs.declared.address.Addr.{Addr}
 use Rattle.edge_base.specs.declared.token.TokenKind.{TokenKind}
 use Rattle.edge_base.specs.declared.token.TokenKind.TheVariants as kind
 use Rattle.edge_base.specs.Address.{IsAddrText}
-use Rattle.edge_base.specs.Token.{is_blank, is_digit, is_name_start, is_name_byte, is_name, is_counting, size_of, number_of, text_of, raw_text_of, list_name_of, is_symbol, symbols, IsBlockText, IsTokenOf}
+use Rattle.edge_base.specs.Token.{is_blank, is_digit, is_name_start, is_name_byte, is_name, size_of, number_of, text_of, raw_text_of, list_name_of, is_symbol, symbols, IsBlockText, IsTokenOf}
 use Rattle.expr_lexer.specs.declared.scanner.State.{State}
 use Rattle.expr_lexer.specs.Scan.{kind_from, with_next, first_of, is_address_byte}
 use Rattle.expr_lexer.specs.Fronts.{is_scanned, kind_of_name}
+use Rattle.expr_lexer.proofs.ByteLemmas.{case_at, begins_with, begins-append, begins_apart, all_by, digit_starts_no_name}
 use Rattle.expr_lexer.proofs.StateLemmas.{is_rest, name_is, rest_is, is_dot, is_some-map}
-use Rattle.expr_lexer.proofs.KindLemmas.{Shape, scan_gives, one_of, size_is_some}
+use Rattle.expr_lexer.proofs.KindLemmas.{Shape, scan_gives, size_digits}
+use Rattle.expr_lexer.proofs.TakenLemmas.{one_passes}
 use Rattle.expr_lexer.proofs.LongestLemmas.{shape_of, token_is_read}
-use Rattle.expr_lexer.proofs.AddressLemmas.{BeginsWithDigit, IsAddressFace, is_colon, address_face}
+use Rattle.expr_lexer.proofs.AddressLemmas.{IsAddressFace, is_colon, address_face}
 use Rattle.expr_lexer.proofs.BlockLemmas.{is_slash, block_splits}
 
 -- a byte that addresses and blocks have, and no other token that begins as they may
-abbrev pub is_sign : ℕ → Bool
+abbrev is_sign : ℕ → Bool
 is_sign byte = byte == 58 || byte == 47
 
-abbrev pub BeginsWithAddressByte : List ℕ → Type 0
-BeginsWithAddressByte [] = ⊥
-BeginsWithAddressByte (byte ∷ text) = is_address_byte byte ≡ true
-
 -- what tells an address or a block from the other tokens
-pub record IsUnscanned (text : List ℕ) : Type 0 where
-  pub first : BeginsWithAddressByte text
-  pub sign : (list_any is_sign text ≡ true) ⊎ (BeginsWithDigit text × (list_any is_dot text ≡ true))
+record IsUnscanned (text : List ℕ) : Type 0 where
+  first : begins_with is_address_byte text ≡ true
+  sign : (list_any is_sign text ≡ true) ⊎ ((begins_with is_digit text ≡ true) × (list_any is_dot text ≡ true))
 
 -- no byte of the one test is one of the other
 clash : (some other : ℕ → Bool) → ((byte : ℕ) → some byte ≡ true → other byte ≡ false) → (text : List ℕ) → list_all some text ≡ true → list_any other text ≡ true → ⊥
@@ -41,12 +38,9 @@ clash some other apart (byte ∷ text) h k = let both : (some byte ≡ true) × 
 
 -- ---- names
 
-digit_is_no_start : (byte : ℕ) → is_name_start byte ≡ true → is_digit byte ≡ true → ⊥
-digit_is_no_start byte start digit = grind (arith, nat_tests)
-
-pub record HasNameBytes (text : List ℕ) : Type 0 where
-  pub rest : is_rest text ≡ true → list_all (λ byte. is_name_byte byte || byte == 46) text ≡ true
-  pub name : is_name text ≡ true → list_all (λ byte. is_name_byte byte || byte == 46) text ≡ true
+record HasNameBytes (text : List ℕ) : Type 0 where
+  rest : is_rest text ≡ true → list_all (λ byte. is_name_byte byte || byte == 46) text ≡ true
+  name : is_name text ≡ true → list_all (λ byte. is_name_byte byte || byte == 46) text ≡ true
 
 start_is_name_byte : (byte : ℕ) → is_name_start byte ≡ true → (is_name_byte byte || byte == 46) ≡ true
 start_is_name_byte byte h = rw h refl
@@ -70,33 +64,20 @@ name_bytes (byte ∷ text) = record {
 name_byte_is_no_sign : (byte : ℕ) → (is_name_byte byte || byte == 46) ≡ true → is_sign byte ≡ false
 name_byte_is_no_sign byte h = grind (arith, nat_tests)
 
-name_begins_no_digit : (text : List ℕ) → is_name text ≡ true → BeginsWithDigit text → ⊥
-name_begins_no_digit [] h digit = digit
+name_begins_no_digit : (text : List ℕ) → is_name text ≡ true → begins_with is_digit text ≡ true → ⊥
+name_begins_no_digit [] h digit = cc
 name_begins_no_digit (byte ∷ text) h digit = let start : is_name_start byte ≡ true = (and_parts _ _ (sym (name_is byte text) ∙ h)).0 in
-    digit_is_no_start byte start digit
+    both_ways _ (digit_starts_no_name byte digit) start
 
 -- ---- numbers
 
-abbrev is_number_byte : ℕ → Bool
+abbrev pub is_number_byte : ℕ → Bool
 is_number_byte byte = is_digit byte || byte == 45
 
-digits_number : (text : List ℕ) → list_all is_digit text ≡ true → list_all is_number_byte text ≡ true
-digits_number [] h = refl
-digits_number (byte ∷ text) h = let both : (is_digit byte ≡ true) × (list_all is_digit text ≡ true) = and_parts _ _ h in
-    and_from _ _ (or_left _ _ both.0) (digits_number text both.1)
-
-counted_is_digit : (byte : ℕ) → (nat_le 49 byte && nat_le byte 57) ≡ true → is_digit byte ≡ true
-counted_is_digit byte h = grind (arith, nat_tests)
-
-counting_bytes : (text : List ℕ) → is_counting text ≡ true → list_all is_number_byte text ≡ true
-counting_bytes [] h = absurd (cc)
-counting_bytes (byte ∷ text) h = let both : ((nat_le 49 byte && nat_le byte 57) ≡ true) × (list_all is_digit text ≡ true) = and_parts _ _ h in
-    and_from _ _ (or_left _ _ (counted_is_digit byte both.0)) (digits_number text both.1)
-
 size_bytes : (most : ℕ) (text : List ℕ) → is_some (size_of most text) ≡ true → list_all is_number_byte text ≡ true
-size_bytes most text h = counting_bytes text (and_parts (is_counting text) (nat_le (digits_value 10 text) most) (sym (size_is_some most text) ∙ h)).0
+size_bytes most text h = all_by is_digit is_number_byte (λ byte digit. or_left (is_digit byte) (byte == 45) digit) text (size_digits most text h)
 
-number_bytes : (text : List ℕ) → IsSome (number_of text) → list_all is_number_byte text ≡ true
+pub number_bytes : (text : List ℕ) → IsSome (number_of text) → list_all is_number_byte text ≡ true
 number_bytes [] h = absurd (cc)
 number_bytes (byte ∷ text) h = elim (cases_Bool (bytes_eq (byte ∷ text) (codes "0"))) [
   | inl lone ↦ let P : List ℕ → Type 0 = λ t. list_all is_number_byte t ≡ true in subst P (sym ((bytes_eq-Decides (byte ∷ text) (codes "0")).0 lone)) refl
@@ -110,39 +91,28 @@ number_bytes (byte ∷ text) h = elim (cases_Bool (bytes_eq (byte ∷ text) (cod
 number_byte_is_no_sign : (byte : ℕ) → is_number_byte byte ≡ true → is_sign byte ≡ false
 number_byte_is_no_sign byte h = grind (arith, nat_tests)
 
-number_byte_is_no_dot : (byte : ℕ) → is_number_byte byte ≡ true → is_dot byte ≡ false
+pub number_byte_is_no_dot : (byte : ℕ) → is_number_byte byte ≡ true → is_dot byte ≡ false
 number_byte_is_no_dot byte h = grind (arith, nat_tests)
 
 -- ---- the other kinds, by their first byte
 
-text_begins : (text : List ℕ) → IsSome (text_of text) → BeginsWithAddressByte text → ⊥
-text_begins [] h first = first
-text_begins (byte ∷ text) h first = elim (cases_Bool (byte == 34)) [
-  | inl quote ↦ let bad : false ≡ true = rw (eqb-true byte 34 quote) at first in absurd (cc)
-  | inr other ↦ let bad : false ≡ true = rw other at h in absurd (cc)
-]
+pub text_begins : (text : List ℕ) → IsSome (text_of text) → begins_with (λ byte. byte == 34) text ≡ true
+text_begins [] h = absurd (cc)
+text_begins (byte ∷ text) h = true_from_ne_false (byte == 34) (λ other. let bad : false ≡ true = rw other at h in cc)
 
-raw_begins : (text : List ℕ) → IsSome (raw_text_of text) → BeginsWithAddressByte text → ⊥
-raw_begins [] h first = first
-raw_begins (byte ∷ text) h first = elim (cases_Bool (byte == 114)) [
-  | inl letter ↦ let bad : false ≡ true = rw (eqb-true byte 114 letter) at first in absurd (cc)
-  | inr other ↦ let bad : false ≡ true = rw other at h in absurd (cc)
-]
+pub raw_begins : (text : List ℕ) → IsSome (raw_text_of text) → begins_with (λ byte. byte == 114) text ≡ true
+raw_begins [] h = absurd (cc)
+raw_begins (byte ∷ text) h = true_from_ne_false (byte == 114) (λ other. let bad : false ≡ true = rw other at h in cc)
 
-list_name_begins : (text : List ℕ) → IsSome (list_name_of text) → BeginsWithAddressByte text → ⊥
-list_name_begins [] h first = first
-list_name_begins (byte ∷ text) h first = elim (cases_Bool (byte == 36)) [
-  | inl dollar ↦ let bad : false ≡ true = rw (eqb-true byte 36 dollar) at first in absurd (cc)
-  | inr other ↦ let bad : false ≡ true = rw other at h in absurd (cc)
-]
+pub list_name_begins : (text : List ℕ) → IsSome (list_name_of text) → begins_with (λ byte. byte == 36) text ≡ true
+list_name_begins [] h = absurd (cc)
+list_name_begins (byte ∷ text) h = true_from_ne_false (byte == 36) (λ other. let bad : false ≡ true = rw other at h in cc)
 
-record SymbolBytes (text : List ℕ) : Type 0 where
-  no_sign : list_any is_sign text ≡ false
-  no_digit : BeginsWithDigit text → ⊥
+symbol_has_no_sign : (text : List ℕ) → is_symbol text ≡ true → list_any is_sign text ≡ false
+symbol_has_no_sign text h = not-true _ (one_passes (λ (t : List ℕ). not (list_any is_sign t)) text symbols h refl)
 
-symbol_bytes : (text : List ℕ) → is_symbol text ≡ true → SymbolBytes text
-symbol_bytes text h = one_of SymbolBytes text symbols h
-    (record { no_sign = refl; no_digit = λ digit. cc }, (record { no_sign = refl; no_digit = λ digit. cc }, (record { no_sign = refl; no_digit = λ digit. cc }, (record { no_sign = refl; no_digit = λ digit. cc }, (record { no_sign = refl; no_digit = λ digit. cc }, (record { no_sign = refl; no_digit = λ digit. cc }, (record { no_sign = refl; no_digit = λ digit. cc }, (record { no_sign = refl; no_digit = λ digit. cc }, (record { no_sign = refl; no_digit = λ digit. cc }, (record { no_sign = refl; no_digit = λ digit. cc }, (record { no_sign = refl; no_digit = λ digit. cc }, (record { no_sign = refl; no_digit = λ digit. cc }, (record { no_sign = refl; no_digit = λ digit. cc }, (record { no_sign = refl; no_digit = λ digit. cc }, (record { no_sign = refl; no_digit = λ digit. cc }, (record { no_sign = refl; no_digit = λ digit. cc }, (record { no_sign = refl; no_digit = λ digit. cc }, (record { no_sign = refl; no_digit = λ digit. cc }, (record { no_sign = refl; no_digit = λ digit. cc }, (record { no_sign = refl; no_digit = λ digit. cc }, tt))))))))))))))))))))
+symbol_begins_with_no_digit : (text : List ℕ) → is_symbol text ≡ true → begins_with is_digit text ≡ false
+symbol_begins_with_no_digit text h = not-true _ (one_passes (λ (t : List ℕ). not (begins_with is_digit t)) text symbols h refl)
 
 unscanned_is_unread : (token_kind : TokenKind) (text : List ℕ) → IsUnscanned text → Shape token_kind text → ⊥
 unscanned_is_unread kind.Name text h shape = elim h.sign [
@@ -156,12 +126,12 @@ unscanned_is_unread kind.Number text h shape = elim h.sign [
 ]
 unscanned_is_unread kind.Address text h shape = shape
 unscanned_is_unread kind.Block text h shape = shape
-unscanned_is_unread kind.Text text h shape = text_begins text shape h.first
-unscanned_is_unread kind.RawText text h shape = raw_begins text shape h.first
-unscanned_is_unread kind.ListName text h shape = list_name_begins text shape h.first
+unscanned_is_unread kind.Text text h shape = begins_apart is_address_byte 34 text refl (text_begins text shape) h.first
+unscanned_is_unread kind.RawText text h shape = begins_apart is_address_byte 114 text refl (raw_begins text shape) h.first
+unscanned_is_unread kind.ListName text h shape = begins_apart is_address_byte 36 text refl (list_name_begins text shape) h.first
 unscanned_is_unread kind.Symbol text h shape = elim h.sign [
-  | inl sign ↦ both_ways _ (symbol_bytes text shape).no_sign sign
-  | inr dotted ↦ (symbol_bytes text shape).no_digit dotted.0
+  | inl sign ↦ both_ways _ (symbol_has_no_sign text shape) sign
+  | inr dotted ↦ both_ways _ (symbol_begins_with_no_digit text shape) dotted.0
 ]
 
 -- ---- addresses and blocks
@@ -173,7 +143,8 @@ colon_is_sign (byte ∷ text) h = elim (or_cases (is_colon byte) (list_any is_co
   | inr later ↦ or_right (is_sign byte) (list_any is_sign text) (colon_is_sign text later)
 ]
 
-address_begins : (text : List ℕ) → list_all is_address_byte text ≡ true → (list_any is_colon text ≡ true) ⊎ (BeginsWithDigit text × (list_any is_dot text ≡ true)) → BeginsWithAddressByte text
+address_begins : (text : List ℕ) → list_all is_address_byte text ≡ true
+    → (list_any is_colon text ≡ true) ⊎ ((begins_with is_digit text ≡ true) × (list_any is_dot text ≡ true)) → begins_with is_address_byte text ≡ true
 address_begins [] bytes sign = elim sign [ inl colon ↦ absurd (cc) | inr dotted ↦ dotted.0 ]
 address_begins (byte ∷ text) bytes sign = (and_parts _ _ bytes).0
 
@@ -183,13 +154,9 @@ address_is_unscanned text a h = let face : IsAddressFace text = address_face tex
   sign = elim face.sign [ inl colon ↦ inl (colon_is_sign text colon) | inr dotted ↦ inr dotted ];
 }
 
-begins-append : (text more : List ℕ) → BeginsWithAddressByte text → BeginsWithAddressByte (text ++ more)
-begins-append [] more h = absurd h
-begins-append (byte ∷ text) more h = h
-
 block_is_unscanned : (text : List ℕ) (a : Addr) (bits : ℕ) → IsBlockText text a bits → IsUnscanned text
 block_is_unscanned text a bits h = subst IsUnscanned (sym (block_splits text bits h.1)) record {
-  first = begins-append (before_first is_slash text) (47 ∷ after_first is_slash text) (address_is_unscanned (before_first is_slash text) a h.0).first;
+  first = begins-append is_address_byte (before_first is_slash text) (47 ∷ after_first is_slash text) (address_is_unscanned (before_first is_slash text) a h.0).first;
   sign = inl (list_any-append is_sign (before_first is_slash text) (47 ∷ after_first is_slash text) ∙ or_right _ _ refl);
 }
 
@@ -201,27 +168,22 @@ block_is_no_address text a b bits h k =
     = and_parts _ _ (sym (list_all-append is_address_byte (before_first is_slash text) (47 ∷ after_first is_slash text)) ∙ bytes) in
     let bad : false ≡ true = parts.1 in cc
 
-token_is_unscanned : (token_kind : TokenKind) (text : List ℕ) → is_scanned token_kind ≡ false → IsTokenOf token_kind text → IsUnscanned text
-token_is_unscanned kind.Name text among h = absurd (cc)
-token_is_unscanned kind.Reserved text among h = absurd (cc)
-token_is_unscanned kind.Number text among h = absurd (cc)
-token_is_unscanned kind.Address text among h = address_is_unscanned text h.0 h.1
-token_is_unscanned kind.Block text among h = block_is_unscanned text h.0 h.1 h.2
-token_is_unscanned kind.Text text among h = absurd (cc)
-token_is_unscanned kind.RawText text among h = absurd (cc)
-token_is_unscanned kind.ListName text among h = absurd (cc)
-token_is_unscanned kind.Symbol text among h = absurd (cc)
+-- what holds of the kinds that the scanner does not read
+pub unscanned_cases : (P : TokenKind → Type 0) (token_kind : TokenKind) → is_scanned token_kind ≡ false → P kind.Address → P kind.Block → P token_kind
+unscanned_cases P kind.Address among address block = address
+unscanned_cases P kind.Block among address block = block
+unscanned_cases P kind.Name among address block = absurd (cc)
+unscanned_cases P kind.Reserved among address block = absurd (cc)
+unscanned_cases P kind.Number among address block = absurd (cc)
+unscanned_cases P kind.Text among address block = absurd (cc)
+unscanned_cases P kind.RawText among address block = absurd (cc)
+unscanned_cases P kind.ListName among address block = absurd (cc)
+unscanned_cases P kind.Symbol among address block = absurd (cc)
 
-unscanned_kind : (token_kind : TokenKind) → is_scanned token_kind ≡ false → (token_kind ≡ kind.Address) ⊎ (token_kind ≡ kind.Block)
-unscanned_kind kind.Name h = absurd (cc)
-unscanned_kind kind.Reserved h = absurd (cc)
-unscanned_kind kind.Number h = absurd (cc)
-unscanned_kind kind.Address h = inl refl
-unscanned_kind kind.Block h = inr refl
-unscanned_kind kind.Text h = absurd (cc)
-unscanned_kind kind.RawText h = absurd (cc)
-unscanned_kind kind.ListName h = absurd (cc)
-unscanned_kind kind.Symbol h = absurd (cc)
+token_is_unscanned : (token_kind : TokenKind) (text : List ℕ) → is_scanned token_kind ≡ false → IsTokenOf token_kind text → IsUnscanned text
+token_is_unscanned token_kind text among = unscanned_cases (λ (k : TokenKind). IsTokenOf k text → IsUnscanned text) token_kind among
+    (λ h. address_is_unscanned text h.0 h.1)
+    (λ h. block_is_unscanned text h.0 h.1 h.2)
 
 -- ---- one kind at most
 
@@ -253,16 +215,9 @@ two_kinds : (text : List ℕ) → IsTokenOf kind.Block text → IsTokenOf kind.A
 two_kinds text h k = block_is_no_address text h.0 k.0 h.1 h.2 k.1
 
 none_scanned : (text : List ℕ) (one other : TokenKind) → is_scanned one ≡ false → is_scanned other ≡ false → IsTokenOf one text → IsTokenOf other text → one ≡ other
-none_scanned text one other here there h k = elim (unscanned_kind one here) [
-  | inl a ↦ elim (unscanned_kind other there) [
-    | inl b ↦ a ∙ sym b
-    | inr b ↦ absurd (two_kinds text (let t : IsTokenOf kind.Block text = subst (λ (j : TokenKind). IsTokenOf j text) b k in t) (let t : IsTokenOf kind.Address text = subst (λ (j : TokenKind). IsTokenOf j text) a h in t))
-  ]
-  | inr a ↦ elim (unscanned_kind other there) [
-    | inl b ↦ absurd (two_kinds text (let t : IsTokenOf kind.Block text = subst (λ (j : TokenKind). IsTokenOf j text) a h in t) (let t : IsTokenOf kind.Address text = subst (λ (j : TokenKind). IsTokenOf j text) b k in t))
-    | inr b ↦ a ∙ sym b
-  ]
-]
+none_scanned text one other here there = unscanned_cases (λ (k : TokenKind). IsTokenOf k text → IsTokenOf other text → k ≡ other) one here
+    (λ h. unscanned_cases (λ (k : TokenKind). IsTokenOf k text → kind.Address ≡ k) other there (λ k. refl) (λ k. absurd (two_kinds text k h)))
+    (λ h. unscanned_cases (λ (k : TokenKind). IsTokenOf k text → kind.Block ≡ k) other there (λ k. absurd (two_kinds text h k)) (λ k. refl))
 
 pub kinds_apart : (text : List ℕ) (one other : TokenKind) → IsTokenOf one text → IsTokenOf other text → one ≡ other
 kinds_apart text one other h k = elim (cases_Bool (is_scanned one)) [
@@ -278,26 +233,15 @@ kinds_apart text one other h k = elim (cases_Bool (is_scanned one)) [
 
 -- ---- no token is empty, and none begins with a blank
 
-unscanned_not_empty : IsUnscanned [] → ⊥
-unscanned_not_empty h = h.first
-
 pub empty_is_no_token : (token_kind : TokenKind) → ¬ (IsTokenOf token_kind [])
 empty_is_no_token token_kind h = elim (cases_Bool (is_scanned token_kind)) [
   | inl here ↦ let bad : None ≡ Some (shape_of token_kind) = token_is_read token_kind [] here h in absurd (cc)
-  | inr there ↦ unscanned_not_empty (token_is_unscanned token_kind [] there h)
+  | inr there ↦ let bad : false ≡ true = (token_is_unscanned token_kind [] there h).first in absurd (cc)
 ]
 
 blank_begins_nothing : (byte : ℕ) → is_blank byte ≡ true → first_of byte ≡ None
-blank_begins_nothing byte h = let P : ℕ → Type 0 = λ b. first_of b ≡ None in elim (or_cases _ (byte == 10) h) [
-  | inl more ↦ elim (or_cases _ (byte == 13) more) [
-    | inl less ↦ elim (or_cases _ (byte == 9) less) [
-      | inl space ↦ subst P (sym (eqb-true byte 32 space)) refl
-      | inr tab ↦ subst P (sym (eqb-true byte 9 tab)) refl
-    ]
-    | inr cr ↦ subst P (sym (eqb-true byte 13 cr)) refl
-  ]
-  | inr lf ↦ subst P (sym (eqb-true byte 10 lf)) refl
-]
+blank_begins_nothing byte h = let P : ℕ → Type 0 = λ b. first_of b ≡ None in
+    case_at P byte 10 _ h (λ h. case_at P byte 13 _ h (λ h. case_at P byte 9 _ h (λ h. subst P (sym (eqb-true byte 32 h)) refl) refl) refl) refl
 
 address_byte_is_no_blank : (byte : ℕ) → is_address_byte byte ≡ true → is_blank byte ≡ true → ⊥
 address_byte_is_no_blank byte h blank = grind (arith, nat_tests)
@@ -305,6 +249,7 @@ address_byte_is_no_blank byte h blank = grind (arith, nat_tests)
 pub token_begins_with_no_blank : (token_kind : TokenKind) (byte : ℕ) (text : List ℕ) → IsTokenOf token_kind (byte ∷ text) → is_blank byte ≡ true → ⊥
 token_begins_with_no_blank token_kind byte text h blank = elim (cases_Bool (is_scanned token_kind)) [
   | inl here ↦ let bad : None ≡ Some (shape_of token_kind)
-      = ap (λ (read : Option State). with_next read None (λ next. kind_from next text)) (sym (blank_begins_nothing byte blank)) ∙ token_is_read token_kind (byte ∷ text) here h in absurd (cc)
+      = ap (λ (read : Option State). with_next read None (λ next. kind_from next text)) (sym (blank_begins_nothing byte blank))
+      ∙ token_is_read token_kind (byte ∷ text) here h in absurd (cc)
   | inr there ↦ address_byte_is_no_blank byte (token_is_unscanned token_kind (byte ∷ text) there h).first blank
 ]

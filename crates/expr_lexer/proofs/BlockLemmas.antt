@@ -2,7 +2,7 @@
 use Rattle.std.proofs.Common.{◌≡◌, ℕ, suc, zero, ◌+◌, ◌<◌, ◌≤◌, Bool, true, false, not, ◌==◌, nat_lt, unwrap_or, position, MatchOption, ltb-false, List, [], ◌∷◌, ◌++◌, length, take, drop, get_or, Option, Some, None, is_some, inl, inr, refl, sym, ◌∙◌, ap, subst, arith, eqb-true, zero-add, one-add, add-one, length-append, length-drop, take-append-drop, append_assoc, suc-add}
 use Rattle.std.proofs.lemmas.Bool.{cases_Bool, and_parts}
 use Rattle.std.proofs.lemmas.Bool.Decides.{nat_tests}
-use Rattle.std.proofs.lemmas.List.{take_at, drop_at, length-take-le, get_or_at, drop-drop}
+use Rattle.std.proofs.lemmas.List.{take_at, drop_at, length-take, length-take-le, get_or_at, drop-drop}
 use Rattle.std.proofs.lemmas.Option.{cond_some}
 use Rattle.std.specs.List.{list_all, position_or_len, before_first, after_first}
 use Rattle.edge_base.specs.declared.address.Addr.{Addr}
@@ -34,14 +34,13 @@ stretch_covers_front (suc size) (suc most) (byte ∷ text) near within h =
     let later : size ≤ position_or_len is_other_byte (take most text) = stretch_covers_front size most text (omega arith) (omega arith) both.1 in
     rw (passed byte both.0) (omega (arith, later))
 
-stretch_fits : (most : ℕ) (text : List ℕ) → position_or_len is_other_byte (take most text) ≤ length text
-stretch_fits zero text = omega arith
-stretch_fits (suc most) [] = omega arith
-stretch_fits (suc most) (byte ∷ text) = let later : position_or_len is_other_byte (take most text) ≤ length text = stretch_fits most text in
-    elim (cases_Bool (not (is_other_byte byte))) [ inl here ↦ rw here (omega (arith, later)) | inr stop ↦ rw stop (omega arith) ]
+place_fits : (test : ℕ → Bool) (text : List ℕ) → position_or_len test text ≤ length text
+place_fits test [] = omega arith
+place_fits test (byte ∷ text) = let later : position_or_len test text ≤ length text = place_fits test text in
+    elim (cases_Bool (not (test byte))) [ inl here ↦ rw here (omega (arith, later)) | inr stop ↦ rw stop (omega arith) ]
 
 pub stretch_within : (text : List ℕ) → stretch_of text ≤ length text
-stretch_within text = stretch_fits 45 text
+stretch_within text = omega (arith, place_fits is_other_byte (take 45 text), length-take 45 text)
 
 -- ---- addresses
 
@@ -52,7 +51,7 @@ address_in_stretch text size a within h =
     stretch_covers_front size 45 text (omega (arith, face.short, length-take-le size text within)) within face.bytes
 
 pub empty_is_no_address : (a : Addr) → ¬ (IsAddrText [] a)
-empty_is_no_address a h = elim (address_face [] a h).sign [ inl colon ↦ cc | inr dotted ↦ dotted.0 ]
+empty_is_no_address a h = elim (address_face [] a h).sign [ inl colon ↦ cc | inr dotted ↦ (let bad : false ≡ true = dotted.0 in cc) ]
 
 pub only_address : (token_kind : TokenKind) (text : List ℕ) → is_address token_kind ≡ true → IsTokenOf token_kind text → IsTokenOf kind.Address text
 only_address kind.Address text among h = h
@@ -65,7 +64,7 @@ only_address kind.RawText text among h = absurd (cc)
 only_address kind.ListName text among h = absurd (cc)
 only_address kind.Symbol text among h = absurd (cc)
 
-pub only_block : (token_kind : TokenKind) (text : List ℕ) → is_block token_kind ≡ true → IsTokenOf token_kind text → IsTokenOf kind.Block text
+only_block : (token_kind : TokenKind) (text : List ℕ) → is_block token_kind ≡ true → IsTokenOf token_kind text → IsTokenOf kind.Block text
 only_block kind.Block text among h = h
 only_block kind.Name text among h = absurd (cc)
 only_block kind.Reserved text among h = absurd (cc)
@@ -102,7 +101,8 @@ slash_place (byte ∷ front) rest h =
 behind_slash : (front rest : List ℕ) → drop (length front + 1) (front ++ 47 ∷ rest) ≡ rest
 behind_slash front rest = sym (drop-drop 1 (length front) (front ++ 47 ∷ rest)) ∙ ap (drop 1) (drop_at front (47 ∷ rest) (length front) refl)
 
-block_text : (front rest : List ℕ) (a : Addr) (bits : ℕ) → IsAddrText front a → bits_of rest ≡ Some bits → IsBlockText (front ++ 47 ∷ rest) a bits
+-- an address, `/` and bits are a block
+pub block_text : (front rest : List ℕ) (a : Addr) (bits : ℕ) → IsAddrText front a → bits_of rest ≡ Some bits → IsBlockText (front ++ 47 ∷ rest) a bits
 block_text front rest a bits h is =
     let place : position_or_len is_slash (front ++ 47 ∷ rest) ≡ length front = slash_place front rest (address_face front a h).bytes in
     (rw (place, take_at front (47 ∷ rest) (length front) refl) h, rw (place, behind_slash front rest) is)
@@ -134,17 +134,17 @@ from_bits (byte ∷ text) = elim (cases_Bool (byte == 48)) [
 ]
 
 -- a block at the front of a text, in its parts
-pub record IsBlockAt (text : List ℕ) (size : ℕ) : Type 0 where
-  pub front : List ℕ
-  pub bits : List ℕ
-  pub behind : List ℕ
-  pub a : Addr
-  pub is_split : text ≡ front ++ 47 ∷ (bits ++ behind)
-  pub is_address : IsAddrText front a
-  pub read : kind_from state.Bits bits ≡ Some kind.Number
-  pub is_size : size ≡ length front + 1 + length bits
+record IsBlockAt (text : List ℕ) (size : ℕ) : Type 0 where
+  front : List ℕ
+  bits : List ℕ
+  behind : List ℕ
+  a : Addr
+  is_split : text ≡ front ++ 47 ∷ (bits ++ behind)
+  is_address : IsAddrText front a
+  read : kind_from state.Bits bits ≡ Some kind.Number
+  is_size : size ≡ length front + 1 + length bits
 
-pub block_at : (text : List ℕ) (size : ℕ) (a : Addr) (bits : ℕ) → size ≤ length text → IsBlockText (take size text) a bits → IsBlockAt text size
+block_at : (text : List ℕ) (size : ℕ) (a : Addr) (bits : ℕ) → size ≤ length text → IsBlockText (take size text) a bits → IsBlockAt text size
 block_at text size a bits within h =
     let front = before_first is_slash (take size text) in
     let rest = after_first is_slash (take size text) in
@@ -157,16 +157,17 @@ block_at text size a bits within h =
       is_split = sym (take-append-drop size text) ∙ ap (λ (l : List ℕ). l ++ drop size text) parts ∙ append_assoc front (47 ∷ rest) (drop size text);
       is_address = h.0;
       read = from_bits rest ∙ ap (λ (found : Option ℕ). kind_where (is_some found) kind.Number) h.1;
-      is_size = sym (length-take-le size text within) ∙ ap length parts ∙ length-append front (47 ∷ rest) ∙ (let e : length front + suc (length rest) ≡ length front + 1 + length rest = omega arith in e);
+      is_size = sym (length-take-le size text within) ∙ ap length parts ∙ length-append front (47 ∷ rest)
+          ∙ (let e : length front + suc (length rest) ≡ length front + 1 + length rest = omega arith in e);
     }
 
 -- where the block's `/` stands
-pub record IsSlashAt (text front rest : List ℕ) : Type 0 where
-  pub place : stretch_of text ≡ length front
-  pub within : stretch_of text < length text
-  pub slash : get_or text (stretch_of text) 0 ≡ 47
-  pub before : take (stretch_of text) text ≡ front
-  pub after : drop (stretch_of text + 1) text ≡ rest
+record IsSlashAt (text front rest : List ℕ) : Type 0 where
+  place : stretch_of text ≡ length front
+  within : stretch_of text < length text
+  slash : get_or text (stretch_of text) 0 ≡ 47
+  before : take (stretch_of text) text ≡ front
+  after : drop (stretch_of text + 1) text ≡ rest
 
 slash_in : (front rest : List ℕ) (a : Addr) → IsAddrText front a → IsSlashAt (front ++ 47 ∷ rest) front rest
 slash_in front rest a h =
@@ -180,11 +181,11 @@ slash_in front rest a h =
       after = rw place (behind_slash front rest);
     }
 
-pub slash_at : (text front rest : List ℕ) (a : Addr) → text ≡ front ++ 47 ∷ rest → IsAddrText front a → IsSlashAt text front rest
+slash_at : (text front rest : List ℕ) (a : Addr) → text ≡ front ++ 47 ∷ rest → IsAddrText front a → IsSlashAt text front rest
 slash_at text front rest a split h = subst (λ (t : List ℕ). IsSlashAt t front rest) (sym split) (slash_in front rest a h)
 
 -- no block stands at the front where none of its parts does
-pub no_block : (text : List ℕ)
+no_block : (text : List ℕ)
     → (stretch_of text < length text → get_or text (stretch_of text) 0 ≡ 47 → (a : Addr) → IsAddrText (take (stretch_of text) text) a
     → ¬ (HasNoneRead state.Bits (drop (stretch_of text + 1) text)) → ⊥)
     → HasNoneAmong is_block text
@@ -214,10 +215,11 @@ block_no_longer text bits other h fits (a, value, block) =
     let b : IsBlockAt text other = block_at text other a value fits block in
     let at : IsSlashAt text b.front (b.bits ++ b.behind) = slash_at text b.front (b.bits ++ b.behind) b.a b.is_split b.is_address in
     let same : take (length b.bits) (drop (stretch_of text + 1) text) ≡ b.bits = ap (take (length b.bits)) at.after ∙ take_at b.bits b.behind (length b.bits) refl in
-    let longest : length b.bits ≤ bits.size = h.longest (length b.bits) kind.Number (omega (arith, ap length at.after, length-append b.bits b.behind)) (ap (kind_from state.Bits) same ∙ b.read) in
+    let longest : length b.bits ≤ bits.size = h.longest (length b.bits) kind.Number (omega (arith, ap length at.after, length-append b.bits b.behind))
+    (ap (kind_from state.Bits) same ∙ b.read) in
     omega (arith, b.is_size, at.place)
 
-pub block_is_longest : (text : List ℕ) (a : Addr) (bits : Front) → stretch_of text < length text → get_or text (stretch_of text) 0 ≡ 47
+block_is_longest : (text : List ℕ) (a : Addr) (bits : Front) → stretch_of text < length text → get_or text (stretch_of text) 0 ≡ 47
     → IsAddrText (take (stretch_of text) text) a → IsLongestRead state.Bits (drop (stretch_of text + 1) text) bits
     → IsAtLeast is_block text (record { size = stretch_of text + 1 + bits.size; kind = kind.Block })
 block_is_longest text a bits within slash is_addr h =
@@ -236,13 +238,15 @@ block_is_longest text a bits within slash is_addr h =
 pub no_block_at : (text : List ℕ) (at : ℕ) (rest : List ℕ) → at ≡ stretch_of text → rest ≡ drop (at + 1) text
     → (at < length text → get_or text at 0 ≡ 47 → (a : Addr) → IsAddrText (take at text) a → ¬ (HasNoneRead state.Bits rest) → ⊥)
     → HasNoneAmong is_block text
-no_block_at text at rest place is lacks = no_block text (subst (λ (n : ℕ). n < length text → get_or text n 0 ≡ 47 → (a : Addr) → IsAddrText (take n text) a → ¬ (HasNoneRead state.Bits (drop (n + 1) text)) → ⊥) place
+no_block_at text at rest place is lacks =
+    no_block text (subst (λ (n : ℕ). n < length text → get_or text n 0 ≡ 47 → (a : Addr) → IsAddrText (take n text) a → ¬ (HasNoneRead state.Bits (drop (n + 1) text)) → ⊥) place
     (λ within slash a h some. lacks within slash a h (subst (λ (l : List ℕ). ¬ (HasNoneRead state.Bits l)) (sym is) some)))
 
 pub block_is_longest_at : (text : List ℕ) (at : ℕ) (rest : List ℕ) (a : Addr) (bits : Front) → at ≡ stretch_of text → rest ≡ drop (at + 1) text
     → at < length text → get_or text at 0 ≡ 47 → IsAddrText (take at text) a → IsLongestRead state.Bits rest bits
     → IsAtLeast is_block text (record { size = at + 1 + bits.size; kind = kind.Block })
-block_is_longest_at text at rest a bits place is within slash h read = subst (λ (n : ℕ). IsAtLeast is_block text (record { size = n + 1 + bits.size; kind = kind.Block })) (sym place)
+block_is_longest_at text at rest a bits place is within slash h read =
+    subst (λ (n : ℕ). IsAtLeast is_block text (record { size = n + 1 + bits.size; kind = kind.Block })) (sym place)
     (block_is_longest text a bits (subst (λ (n : ℕ). n < length text) place within) (subst (λ (n : ℕ). get_or text n 0 ≡ 47) place slash)
     (subst (λ (n : ℕ). IsAddrText (take n text) a) place h)
     (subst (λ (n : ℕ). IsLongestRead state.Bits (drop (n + 1) text) bits) place (subst (λ (l : List ℕ). IsLongestRead state.Bits l bits) is read)))
@@ -258,11 +262,6 @@ none_from None P Q none h = h
 none_from (Some x) P Q none h = absurd (cc)
 
 -- ---- the place of the first byte that passes a test, or the length
-
-place_fits : (test : ℕ → Bool) (text : List ℕ) → position_or_len test text ≤ length text
-place_fits test [] = omega arith
-place_fits test (byte ∷ text) = let later : position_or_len test text ≤ length text = place_fits test text in
-    elim (cases_Bool (not (test byte))) [ inl here ↦ rw here (omega (arith, later)) | inr stop ↦ rw stop (omega arith) ]
 
 pub place_or_length : (test : ℕ → Bool) (text : List ℕ) → unwrap_or (position test text) (length text) ≡ position_or_len test text
 place_or_length test text = elim (cases_Bool (nat_lt (position_or_len test text) (length text))) [

@@ -12,11 +12,11 @@ use Rattle.expr_lexer.proofs.ApartLemmas.{kinds_apart, empty_is_no_token, token_
 
 -- ---- the longest token is one
 
-pub record IsSame (one other : ℕ) (kind_one kind_other : TokenKind) : Type 0 where
-  pub size : one ≡ other
-  pub kind : kind_one ≡ kind_other
+record IsSame (one other : ℕ) (kind_one kind_other : TokenKind) : Type 0 where
+  size : one ≡ other
+  kind : kind_one ≡ kind_other
 
-pub longest_is_one : (text : List ℕ) (one other : ℕ) (kind_one kind_other : TokenKind)
+longest_is_one : (text : List ℕ) (one other : ℕ) (kind_one kind_other : TokenKind)
     → IsLongest text one kind_one → IsLongest text other kind_other → IsSame one other kind_one kind_other
 longest_is_one text one other kind_one kind_other h k =
     let same : one ≡ other = le_antisymm (k.longest one kind_one h.within h.is_token) (h.longest other kind_other k.within k.is_token) in
@@ -28,7 +28,7 @@ same_fields k l s t e f one two three = cc
 same_token : (a b : Token) → a.kind ≡ b.kind → a.start ≡ b.start → a.end ≡ b.end → a ≡ b
 same_token a b k s e = same_fields a.kind b.kind a.start b.start a.end b.end k s e
 
-pub token_at_is_one : (text : List ℕ) (one other : Token) → IsTokenAt text one → IsTokenAt text other → one.start ≡ other.start → one ≡ other
+token_at_is_one : (text : List ℕ) (one other : Token) → IsTokenAt text one → IsTokenAt text other → one.start ≡ other.start → one ≡ other
 token_at_is_one text one other h k start =
     let here : IsLongest (drop other.start text) (one.end - one.start) one.kind = subst (λ (n : ℕ). IsLongest (drop n text) (one.end - one.start) one.kind) start h.is_longest in
     let same = longest_is_one (drop other.start text) (one.end - one.start) (other.end - other.start) one.kind other.kind here k.is_longest in
@@ -68,11 +68,13 @@ token_starts text token h =
 length_inside : (text : List ℕ) (start end at : ℕ) → start ≤ at → at < end → at < length text → at - start < length (take (end - start) (drop start text))
 length_inside text start end at from to within = omega (arith, length-take (end - start) (drop start text), length-drop start text)
 
-pub blank_inside : (text : List ℕ) (start end at : ℕ) → IsTrue (list_all is_blank (between start end text)) → start ≤ at → at < end → at < length text → is_blank (slice_index text at) ≡ true
+blank_inside : (text : List ℕ) (start end at : ℕ) → IsTrue (list_all is_blank (between start end text)) → start ≤ at → at < end → at < length text
+    → is_blank (slice_index text at) ≡ true
 blank_inside text start end at h from to within = true_from_ne_false (is_blank (slice_index text at)) (λ other.
     let same : get_or (take (end - start) (drop start text)) (at - start) 0 ≡ get_or text at 0
     = get_or-take (end - start) (drop start text) (at - start) 0 (omega arith) ∙ get_or-drop start text (at - start) 0 ∙ ap (λ (n : ℕ). get_or text n 0) (add-sub_of_le from) in
-    both_ways _ (list_all_at is_blank (take (end - start) (drop start text)) (at - start) 0 (omega (arith, length_inside text start end at from to within)) (ap is_blank same ∙ other)) h)
+    both_ways _ (list_all_at is_blank (take (end - start) (drop start text)) (at - start) 0 (omega (arith, length_inside text start end at from to within))
+    (ap is_blank same ∙ other)) h)
 
 -- ---- one cut
 
@@ -86,7 +88,8 @@ same_start text start one other from blanks onward others h k = elim (cases_orde
   ]
 ]
 
-blanks_hold_no_token : (text : List ℕ) (start end : ℕ) (token : Token) → IsTrue (list_all is_blank (between start end text)) → start ≤ token.start → token.start < end → IsTokenAt text token → ⊥
+blanks_hold_no_token : (text : List ℕ) (start end : ℕ) (token : Token) → IsTrue (list_all is_blank (between start end text)) → start ≤ token.start → token.start < end
+    → IsTokenAt text token → ⊥
 blanks_hold_no_token text start end token blanks from to h = let s = token_starts text token h in
     both_ways _ s.no_blank (blank_inside text start end token.start blanks from to s.within)
 
@@ -107,13 +110,13 @@ cut_goes_on text start end (token ∷ tokens) h =
     let later : token.end ≤ end = cut_goes_on text token.end end tokens h.3 in omega (arith, h.0, h.2.in_order)
 
 -- neither a blank nor a token stands at this place
-pub record IsFault (text : List ℕ) (at : ℕ) : Type 0 where
-  pub within : at < length text
-  pub no_blank : is_blank (slice_index text at) ≡ false
-  pub no_token : (token : Token) → token.start ≡ at → ¬ (IsTokenAt text token)
+record IsFault (text : List ℕ) (at : ℕ) : Type 0 where
+  within : at < length text
+  no_blank : is_blank (slice_index text at) ≡ false
+  no_token : (token : Token) → token.start ≡ at → ¬ (IsTokenAt text token)
 
 -- no cut from the same place gets past a fault
-pub fault_stops : (text : List ℕ) (start at end : ℕ) (before tokens : List Token) → IsFault text at → IsCutBetween text start at before → IsCutBetween text start end tokens → end ≤ at
+fault_stops : (text : List ℕ) (start at end : ℕ) (before tokens : List Token) → IsFault text at → IsCutBetween text start at before → IsCutBetween text start end tokens → end ≤ at
 fault_stops text start at end [] [] fault h k = elim (cases_lt at end) [
   | inl past ↦ absurd (both_ways _ fault.no_blank (blank_inside text start end at k.1 h.0 past fault.within))
   | inr not_past ↦ not_past
@@ -148,7 +151,7 @@ fault_is_one text at other h k =
 
 -- ---- how a cut grows
 
-pub one_more_blank : (text : List ℕ) (start at : ℕ) → start ≤ at → at < length text → IsTrue (list_all is_blank (between start at text)) → is_blank (slice_index text at) ≡ true
+one_more_blank : (text : List ℕ) (start at : ℕ) → start ≤ at → at < length text → IsTrue (list_all is_blank (between start at text)) → is_blank (slice_index text at) ≡ true
     → IsTrue (list_all is_blank (between start (at + 1) text))
 one_more_blank text start at from within blanks blank =
     let same : get_or (drop start text) (at - start) 0 ≡ get_or text at 0 = get_or-drop start text (at - start) 0 ∙ ap (λ (n : ℕ). get_or text n 0) (add-sub_of_le from) in
@@ -169,9 +172,6 @@ pub cut_more_token : (text : List ℕ) (start : ℕ) (tokens : List Token) (toke
 cut_more_token text start [] token h at = (h.0, h.1, at, (omega arith, no_blanks text token.end))
 cut_more_token text start (first ∷ tokens) token h at = (h.0, h.1, h.2, cut_more_token text first.end tokens token h.3 at)
 
-pub cut_at_start : (text : List ℕ) → IsCutBetween text 0 0 []
-cut_at_start text = (omega arith, no_blanks text 0)
-
 -- ---- the longest token at a place
 
 pub token_stands : (text : List ℕ) (at : ℕ) (rest : List ℕ) (size : ℕ) (token_kind : TokenKind) → rest ≡ drop at text → IsLongest rest size token_kind
@@ -185,9 +185,11 @@ token_stands text at rest size token_kind is longest neighbour = record {
 pub no_token_stands : (text : List ℕ) (at : ℕ) (rest : List ℕ) (size : ℕ) (token_kind : TokenKind) → rest ≡ drop at text → IsLongest rest size token_kind
     → may_stand_before token_kind (take (length rest - size) (drop size rest)) ≡ false → (token : Token) → token.start ≡ at → ¬ (IsTokenAt text token)
 no_token_stands text at rest size token_kind is longest neighbour token start h =
-    let here : IsLongest rest (token.end - token.start) token.kind = subst (λ (l : List ℕ). IsLongest l (token.end - token.start) token.kind) (ap (λ (n : ℕ). drop n text) start ∙ sym is) h.is_longest in
+    let here : IsLongest rest (token.end - token.start) token.kind
+    = subst (λ (l : List ℕ). IsLongest l (token.end - token.start) token.kind) (ap (λ (n : ℕ). drop n text) start ∙ sym is) h.is_longest in
     let same = longest_is_one rest size (token.end - token.start) token_kind token.kind longest here in
     let end : token.end ≡ at + size = omega (arith, same.size, h.in_order) in
     let behind : take (length rest - size) (drop size rest) ≡ drop token.end text
     = take_rest rest size ∙ ap (drop size) is ∙ drop-drop size at text ∙ ap (λ (n : ℕ). drop n text) (sym end) in
-    both_ways _ (sym (ap (λ (k : TokenKind). may_stand_before k (take (length rest - size) (drop size rest))) same.kind ∙ ap (may_stand_before token.kind) behind) ∙ neighbour) h.neighbour
+    both_ways _ (sym (ap (λ (k : TokenKind). may_stand_before k (take (length rest - size) (drop size rest))) same.kind ∙ ap (may_stand_before token.kind) behind)
+    ∙ neighbour) h.neighbour

@@ -37,7 +37,15 @@ behind_kept : (next : State) (text : List ℕ) (at : ℕ) (best result : Option 
     → IsBestBehind (Some next) text at best result
 behind_kept next text at best result None here same later = inl (same, none_at next text here later)
 behind_kept next text at best result (Some token_kind) here same later =
-    inr (0, token_kind, same ∙ ap (λ (n : ℕ). Some (record { size = n; kind = token_kind })) (let e : at + 1 ≡ at + 1 + 0 = omega arith in e), omega arith, here, λ size beyond within. later size beyond within)
+    inr (
+      0,
+      token_kind,
+      same ∙ ap (λ (n : ℕ). Some (record { size = n; kind = token_kind }))
+          (let e : at + 1 ≡ at + 1 + 0 = omega arith in e),
+      omega arith,
+      here,
+      λ size beyond within. later size beyond within,
+    )
 
 behind_next : (next : State) (text : List ℕ) (at : ℕ) (best result : Option Front)
     → IsBest next text (at + 1) (better (kind_in next) (at + 1) best) result → IsBestBehind (Some next) text at best result

@@ -1,8 +1,10 @@
 pub mod AddressLemmas
 pub mod ApartLemmas
 pub mod BlockLemmas
+pub mod ByteLemmas
 pub mod CutLemmas
 pub mod FrontLemmas
 pub mod KindLemmas
 pub mod LongestLemmas
 pub mod StateLemmas
+pub mod TakenLemmas

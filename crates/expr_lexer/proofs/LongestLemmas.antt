@@ -9,7 +9,8 @@ use Rattle.expr_lexer.specs.declared.scanner.State.TheVariants as state
 use Rattle.expr_lexer.specs.declared.fronts.Front.{Front}
 use Rattle.expr_lexer.specs.Scan.{kind_from}
 use Rattle.expr_lexer.specs.Fronts.{is_scanned, is_block, is_address, kind_of_name, longer_of, HasNoneAmong, HasNoToken, IsAtLeast, IsLongestAmong}
-use Rattle.expr_lexer.proofs.KindLemmas.{Shape, scan_gives, scan_takes, reserved_is_name}
+use Rattle.expr_lexer.proofs.KindLemmas.{Shape, scan_gives}
+use Rattle.expr_lexer.proofs.TakenLemmas.{scan_takes, reserved_is_name}
 use Rattle.expr_lexer.proofs.FrontLemmas.{HasNoneRead, IsLongestRead}
 
 -- ---- what the scanner reads
@@ -120,4 +121,8 @@ every_kind kind.Symbol = refl
 pub longest_of_all : (text : List ℕ) (found : Option Front) → IsLongestAmong (either (either is_scanned is_address) is_block) text found
     → MatchOption found (HasNoToken text) (λ front. IsLongest text front.size front.kind)
 longest_of_all text None h = λ size token_kind within token. h size token_kind (every_kind token_kind) within token
-longest_of_all text (Some front) h = record { within = h.within; is_token = h.is_token; longest = λ size token_kind within token. h.longest size token_kind (every_kind token_kind) within token }
+longest_of_all text (Some front) h = record {
+  within = h.within;
+  is_token = h.is_token;
+  longest = λ size token_kind within token. h.longest size token_kind (every_kind token_kind) within token;
+}

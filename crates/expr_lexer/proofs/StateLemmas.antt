@@ -1,5 +1,6 @@
 -- What each state of the scanner takes, in the words of the tokens.
 use Rattle.std.proofs.Common.{◌≡◌, ℕ, suc, zero, ◌+◌, ◌-◌, ◌*◌, ◌<◌, ◌≤◌, Bool, true, false, cond, ◌&&◌, ◌||◌, nat_eq, nat_lt, nat_le, ◌==◌, List, [], ◌∷◌, length, drop, replicate, slice_index, is_some, Option, Some, None, option_map, inl, inr, refl, sym, ◌∙◌, ap, arith, add-one, one-add, add-zero, eqb-true, le-leb, leb-true, leb-false, ltb-true, ne_eqb, suc-ne-zero}
+use Rattle.std.proofs.Math.Bool.{and-false}
 use Rattle.std.proofs.lemmas.Bool.{cases_Bool, and_right, lt-leb}
 use Rattle.std.proofs.lemmas.Bool.Decides.{nat_tests}
 use Rattle.std.specs.List.{list_all, starts_with, slice_split, onto_first}
@@ -28,7 +29,7 @@ from_list_name (byte ∷ text) =
     elim (cases_Bool (is_name_byte byte)) [ inl holds ↦ rw holds (from_list_name text) | inr fails ↦ rw fails refl ]
 
 -- the parts of a name of which the first has begun
-abbrev pub are_parts : List (List ℕ) → Bool
+abbrev are_parts : List (List ℕ) → Bool
 are_parts [] = true
 are_parts (part ∷ parts) = list_all is_name_byte part && list_all is_part parts
 
@@ -47,13 +48,13 @@ all_parts-onto_first : (byte : ℕ) (parts : List (List ℕ)) → list_all is_pa
 all_parts-onto_first byte [] = elim (cases_Bool (is_name_start byte)) [ inl holds ↦ rw holds refl | inr fails ↦ rw fails refl ]
 all_parts-onto_first byte (part ∷ parts) = elim (cases_Bool (is_name_start byte)) [ inl holds ↦ rw holds refl | inr fails ↦ rw fails refl ]
 
-start_is_no_dot : (byte : ℕ) → is_dot byte ≡ true → is_name_start byte ≡ false
-start_is_no_dot byte dot = rw (eqb-true byte 46 dot) refl
+pub dot_starts_no_name : (byte : ℕ) → is_dot byte ≡ true → is_name_start byte ≡ false
+dot_starts_no_name byte dot = rw (eqb-true byte 46 dot) refl
 
 -- a name is a first byte and its rest
 pub name_is : (byte : ℕ) (text : List ℕ) → is_name (byte ∷ text) ≡ (is_name_start byte && is_rest text)
 name_is byte text = elim (cases_Bool (is_dot byte)) [
-  | inl dot ↦ rw (dot, start_is_no_dot byte dot) refl
+  | inl dot ↦ rw (dot, dot_starts_no_name byte dot) refl
   | inr other ↦ rw other (all_parts-onto_first byte (slice_split is_dot text))
 ]
 
@@ -88,7 +89,8 @@ digit_is byte digit = grind (arith, nat_tests)
 
 pub digits_grow : (size : ℕ) (text : List ℕ) → size ≤ digits_value_after 10 size text
 digits_grow size [] = omega arith
-digits_grow size (byte ∷ text) = let more : size * 10 + digit_value byte ≤ digits_value_after 10 (size * 10 + digit_value byte) text = digits_grow (size * 10 + digit_value byte) text in omega arith
+digits_grow size (byte ∷ text) =
+    let more : size * 10 + digit_value byte ≤ digits_value_after 10 (size * 10 + digit_value byte) text = digits_grow (size * 10 + digit_value byte) text in omega arith
 
 pub from_digits : (most size : ℕ) (text : List ℕ) → size ≤ most
     → kind_from (state.Digits most size) text ≡ kind_where (list_all is_digit text && nat_le (digits_value_after 10 size text) most) kind.Number
@@ -137,9 +139,9 @@ same_bytes a b = grind (arith, nat_tests)
 abbrev has_marks : ℕ → List ℕ → Bool
 has_marks marks text = starts_with nat_eq text (replicate marks 35)
 
-pub record InRaw (text : List ℕ) : Type 0 where
-  pub raw : (marks : ℕ) → kind_from (state.Raw marks) text ≡ kind_where (is_some (raw_bytes_of marks text)) kind.RawText
-  pub closing : (marks left : ℕ) → kind_from (state.Closing marks (suc left)) text
+record InRaw (text : List ℕ) : Type 0 where
+  raw : (marks : ℕ) → kind_from (state.Raw marks) text ≡ kind_where (is_some (raw_bytes_of marks text)) kind.RawText
+  closing : (marks left : ℕ) → kind_from (state.Closing marks (suc left)) text
       ≡ cond (has_marks (suc left) text) (kind_where (length text == suc left) kind.RawText)
       (kind_where (is_some (raw_bytes_of marks text)) kind.RawText)
 
@@ -194,7 +196,7 @@ mark_closes byte text mark later marks (suc left) =
       is_some-map (λ (bytes : List ℕ). byte ∷ bytes) (raw_bytes_of marks text),
     ) (later.closing marks left)
 
-pub in_raw : (text : List ℕ) → InRaw text
+in_raw : (text : List ℕ) → InRaw text
 in_raw [] = record { raw = λ marks. refl; closing = λ marks left. refl }
 in_raw (byte ∷ text) = record {
   raw = λ marks. raw_next byte text (in_raw text) marks;
@@ -210,13 +212,10 @@ is_raw_behind marks text =
     nat_le (marks + marks_of text) 8 && slice_index text (marks_of text) == 34
     && is_some (raw_bytes_of (marks + marks_of text) (drop (marks_of text + 1) text))
 
-pub and_false : (test : Bool) → (test && false) ≡ false
-and_false test = and_right test false refl
-
 quote_ends_marks : (byte : ℕ) → (byte == 34) ≡ true → (byte == 35) ≡ false
 quote_ends_marks byte quote = grind (arith, nat_tests)
 
-pub one_more : (a b : ℕ) → a + (1 + b) ≡ a + 1 + b
+one_more : (a b : ℕ) → a + (1 + b) ≡ a + 1 + b
 one_more a b = omega arith
 
 too_many : (a b : ℕ) → nat_lt a 8 ≡ false → nat_le (a + (1 + b)) 8 ≡ false
@@ -225,7 +224,7 @@ too_many a b over = grind (arith, nat_tests)
 pub drop_past : (n : ℕ) (byte : ℕ) (text : List ℕ) → drop (1 + n + 1) (byte ∷ text) ≡ drop (n + 1) text
 drop_past n byte text = rw (one-add n, add-one (suc n), add-one n) refl
 
-pub index_past : (n : ℕ) (byte : ℕ) (text : List ℕ) → slice_index (byte ∷ text) (1 + n) ≡ slice_index text n
+index_past : (n : ℕ) (byte : ℕ) (text : List ℕ) → slice_index (byte ∷ text) (1 + n) ≡ slice_index text n
 index_past n byte text = rw (one-add n) refl
 
 drop_none : (byte : ℕ) (text : List ℕ) → drop (0 + 1) (byte ∷ text) ≡ text
@@ -233,7 +232,7 @@ drop_none byte text = refl
 
 pub from_marks : (marks : ℕ) (text : List ℕ) → marks ≤ 8
     → kind_from (state.Marks marks) text ≡ kind_where (is_raw_behind marks text) kind.RawText
-from_marks marks [] within = rw (and_false (nat_le (marks + 0) 8)) refl
+from_marks marks [] within = rw (and-false (nat_le (marks + 0) 8)) refl
 from_marks marks (byte ∷ text) within = elim (cases_Bool (byte == 34)) [
   | inl quote ↦ rw (quote_ends_marks byte quote, quote, add-zero marks, le-leb marks 8 within, drop_none byte text) ((in_raw text).raw marks)
   | inr other ↦ elim (cases_Bool (byte == 35)) [
@@ -242,6 +241,6 @@ from_marks marks (byte ∷ text) within = elim (cases_Bool (byte == 34)) [
           (from_marks (marks + 1) text (omega (arith, ltb-true _ _ fits)))
       | inr over ↦ rw (other, mark, over, too_many marks (marks_of text) over) refl
     ]
-    | inr third ↦ rw (third, other, and_false (nat_le (marks + 0) 8)) refl
+    | inr third ↦ rw (third, other, and-false (nat_le (marks + 0) 8)) refl
   ]
 ]

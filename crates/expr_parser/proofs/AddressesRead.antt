@@ -1,23 +1,18 @@
 -- A printed address is read as the same one, and so is a printed block.
-use Rattle.std.proofs.Common.{◌≡◌, ℕ, zero, suc, ◌+◌, ◌-◌, ◌^◌, ◌<◌, ◌≤◌, Bool, true, false, List, [], ◌∷◌, ◌++◌, length, drop, get_or, replicate, codes, decimal, Some, inl, inr, refl, sym, ◌∙◌, ap, subst, arith, one-add, append_assoc}
-use Rattle.std.proofs.lemmas.Bool.{and_parts}
-use Rattle.std.proofs.lemmas.Bool.Decides.{nat_tests}
-use Rattle.std.proofs.lemmas.List.{take_at, drop_at, drop-drop}
+use Rattle.std.proofs.Common.{ℕ, zero, suc, ◌-◌, ◌^◌, ◌<◌, ◌≤◌, Bool, true, false, List, [], ◌∷◌, ◌++◌, length, get_or, replicate, codes, decimal, inl, inr, sym, subst, arith, append_assoc}
 use Rattle.std.proofs.lemmas.Int.Digits.{digits_value-lt}
 use Rattle.std.proofs.Math.Nat.{pow-le-pow_right}
 use Rattle.std.proofs.NetLemmas.Arrays.{eight_items}
 use Rattle.std.proofs.NetLemmas.Texts.{AllSegments}
-use Rattle.std.specs.List.{list_all, position_or_len, after_first}
+use Rattle.std.specs.List.{after_first}
 use Rattle.std.specs.Net.Addr.{segments_of}
 use Rattle.std.specs.Net.Grammar.{IsDotted, IsGroup, IsGroupsAfter, IsColonHex}
 use Rattle.edge_base.specs.declared.address.Addr.{Addr}
 use Rattle.edge_base.specs.declared.address.Addr.TheVariants as addr
 use Rattle.edge_base.specs.Address.{number_of, IsAddrText, addr_text}
 use Rattle.edge_base.proofs.AddressLemmas.{length-groups, IsAddrText-printed_v4, IsAddrText-printed_v6}
-use Rattle.edge_base.specs.Token.{bits_of, IsBlockText}
-use Rattle.expr_lexer.specs.Scan.{is_address_byte}
-use Rattle.expr_lexer.proofs.AddressLemmas.{address_face}
-use Rattle.expr_lexer.proofs.BlockLemmas.{is_slash}
+use Rattle.edge_base.specs.Token.{IsBlockText}
+use Rattle.expr_lexer.proofs.BlockLemmas.{is_slash, block_text}
 use Rattle.expr_parser.proofs.NumbersRead.{bits_are_read}
 
 -- ---- the ranges of addresses
@@ -86,24 +81,6 @@ address_is_read (addr.V6 n) text h = let small : n < 2 ^ 128 = omega (arith, v6_
 
 -- ---- blocks
 
-no_slash : (byte : ℕ) → is_address_byte byte ≡ true → is_slash byte ≡ false
-no_slash byte h = grind (arith, nat_tests)
-
-slash_place : (front rest : List ℕ) → list_all is_address_byte front ≡ true → position_or_len is_slash (front ++ 47 ∷ rest) ≡ length front
-slash_place [] rest h = refl
-slash_place (byte ∷ front) rest h =
-    let both : (is_address_byte byte ≡ true) × (list_all is_address_byte front ≡ true) = and_parts _ _ h in
-    rw (no_slash byte both.0, slash_place front rest both.1) (one-add (length front))
-
-behind_slash : (front rest : List ℕ) → drop (length front + 1) (front ++ 47 ∷ rest) ≡ rest
-behind_slash front rest = sym (drop-drop 1 (length front) (front ++ 47 ∷ rest)) ∙ ap (drop 1) (drop_at front (47 ∷ rest) (length front) refl)
-
--- an address, `/` and bits are a block
-pub block_of : (front rest : List ℕ) (a : Addr) (bits : ℕ) → IsAddrText front a → bits_of rest ≡ Some bits → IsBlockText (front ++ 47 ∷ rest) a bits
-block_of front rest a bits h is =
-    let place : position_or_len is_slash (front ++ 47 ∷ rest) ≡ length front = slash_place front rest (address_face front a h).bytes in
-    (rw (place, take_at front (47 ∷ rest) (length front) refl) h, rw (place, behind_slash front rest) is)
-
 pub block_is_read : (a : Addr) (bits : ℕ) (text : List ℕ) → IsBlockText text a bits → IsBlockText (addr_text a ++ codes "/" ++ decimal bits) a bits
 block_is_read a bits text h = rw (append_assoc (addr_text a) (codes "/") (decimal bits))
-    (block_of (addr_text a) (decimal bits) a bits (address_is_read a _ h.0) (bits_are_read bits (after_first is_slash text) h.1))
+    (block_text (addr_text a) (decimal bits) a bits (address_is_read a _ h.0) (bits_are_read bits (after_first is_slash text) h.1))

@@ -68,13 +68,15 @@ begin_alike (terminal.Number n) f g b c p = literal_alike (lit.Num n) f g b c p
 begin_alike (terminal.Address a) f g b c p = literal_alike (lit.Addr a) f g b c p
 begin_alike t f g b c p = want_alike t f g b c p
 
-closed_alike : (o q : Opened) (d e : Expr) (f g : Frame) (b c : List Level) → bare_opened o ≡ bare_opened q → bare_levels b ≡ bare_levels c → Alike (Some (closed d o f b)) (Some (closed e q g c))
+closed_alike : (o q : Opened) (d e : Expr) (f g : Frame) (b c : List Level) → bare_opened o ≡ bare_opened q → bare_levels b ≡ bare_levels c
+    → Alike (Some (closed d o f b)) (Some (closed e q g c))
 closed_alike opened.Group opened.Group d e f g b c h p = ap (λ v. Some (state (mode.Done stub) fresh v)) p
 closed_alike opened.Group (opened.Call n es) d e f g b c h p = absurd cc
 closed_alike (opened.Call n es) opened.Group d e f g b c h p = absurd cc
 closed_alike (opened.Call n es) (opened.Call m ds) d e f g b c h p = ap (λ v. Some (state (mode.Path stub) fresh v)) p
 
-further_alike : (o q : Opened) (d e : Expr) (f g : Frame) (b c : List Level) → bare_opened o ≡ bare_opened q → bare_levels b ≡ bare_levels c → Alike (further d o f b) (further e q g c)
+further_alike : (o q : Opened) (d e : Expr) (f g : Frame) (b c : List Level) → bare_opened o ≡ bare_opened q → bare_levels b ≡ bare_levels c
+    → Alike (further d o f b) (further e q g c)
 further_alike opened.Group opened.Group d e f g b c h p = refl
 further_alike opened.Group (opened.Call n es) d e f g b c h p = absurd cc
 further_alike (opened.Call n es) opened.Group d e f g b c h p = absurd cc
@@ -115,7 +117,8 @@ end_alike terminal.Xor d e f g b c p = ap (λ v. Some (state mode.Want fresh v))
 end_alike terminal.Or d e f g b c p = ap (λ v. Some (state mode.Want fresh v)) p
 end_alike t d e f g b c p = whole_alike t (chain_of f d) (chain_of g e) b c p
 
-testing_alike : (x : Testing) (d e : Expr) (f g : Frame) (b c : List Level) → bare_levels b ≡ bare_levels c → Alike (Some (state (mode.Testing d x) f b)) (Some (state (mode.Testing e x) g c))
+testing_alike : (x : Testing) (d e : Expr) (f g : Frame) (b c : List Level) → bare_levels b ≡ bare_levels c
+    → Alike (Some (state (mode.Testing d x) f b)) (Some (state (mode.Testing e x) g c))
 testing_alike x d e f g b c p = ap (λ v. Some (state (mode.Testing stub x) fresh v)) p
 
 operand_alike : (t : Terminal) (d e : Expr) (f g : Frame) (b c : List Level) → bare_levels b ≡ bare_levels c → Alike (at_operand t d f b) (at_operand t e g c)
@@ -146,7 +149,8 @@ index_end_alike : (t : Terminal) (d e : Expr) (f g : Frame) (b c : List Level) �
 index_end_alike terminal.CloseIndex d e f g b c p = ap (λ v. Some (state (mode.Path stub) fresh v)) p
 index_end_alike t d e f g b c p = refl
 
-tested_alike : (o : Option Tested) (d e : Expr) (f g : Frame) (b c : List Level) → bare_levels b ≡ bare_levels c → Alike (option_map (λ p. state (mode_of d p) f b) o) (option_map (λ p. state (mode_of e p) g c) o)
+tested_alike : (o : Option Tested) (d e : Expr) (f g : Frame) (b c : List Level) → bare_levels b ≡ bare_levels c
+    → Alike (option_map (λ p. state (mode_of d p) f b) o) (option_map (λ p. state (mode_of e p) g c) o)
 tested_alike None d e f g b c p = refl
 tested_alike (Some (tested.Part x)) d e f g b c p = testing_alike x d e f g b c p
 tested_alike (Some (tested.Whole t)) d e f g b c p = ap (λ v. Some (state (mode.Done stub) fresh v)) p
@@ -170,7 +174,8 @@ bare_opened_twice (opened.Call n es) = refl
 
 bare_levels_twice : (b : List Level) → bare_levels b ≡ bare_levels (bare_levels b)
 bare_levels_twice [] = refl
-bare_levels_twice (l ∷ b) = ap (λ v. level (bare_opened l.opened) fresh ∷ v) (bare_levels_twice b) ∙ ap (λ o. level o fresh ∷ bare_levels (bare_levels b)) (bare_opened_twice l.opened)
+bare_levels_twice (l ∷ b) =
+    ap (λ v. level (bare_opened l.opened) fresh ∷ v) (bare_levels_twice b) ∙ ap (λ o. level o fresh ∷ bare_levels (bare_levels b)) (bare_opened_twice l.opened)
 
 step_bare : (s : State) (t : Terminal) → Alike (step s t) (step (bare s) t)
 step_bare s t = mode_alike s.mode t s.top fresh s.below (bare_levels s.below) (bare_levels_twice s.below)
@@ -212,7 +217,8 @@ ending_alike s r p =
     ∙ sym (ended_bare r.mode r.top fresh r.below (bare_levels r.below) (bare_levels_twice r.below))
 
 -- states that differ only in their trees take as many terminals, and both end well or neither
-taken_on : (o p : Option State) (ts : List Terminal) → Alike o p → ((s r : State) → bare s ≡ bare r → taken ts s ≡ taken ts r) → counted (λ next. taken ts next) o ≡ counted (λ next. taken ts next) p
+taken_on : (o p : Option State) (ts : List Terminal) → Alike o p → ((s r : State) → bare s ≡ bare r → taken ts s ≡ taken ts r)
+    → counted (λ next. taken ts next) o ≡ counted (λ next. taken ts next) p
 taken_on None None ts h k = refl
 taken_on None (Some r) ts h k = absurd cc
 taken_on (Some s) None ts h k = absurd cc
@@ -254,10 +260,8 @@ pub record GoingBare (ts rest : List Terminal) (at : ℕ) (s : State) : Type 0 w
   pub ends : is_some (outcome rest s) ≡ is_some (outcome ts start)
   pub place : at + taken rest s ≡ taken ts start
 
-pub bare_begun : (ts : List Terminal) → GoingBare ts ts 0 start
-bare_begun ts = record { all = omega arith; ends = refl; place = omega arith }
-
-pub bare_goes_on : (ts rest : List Terminal) (t : Terminal) (at : ℕ) (s next : State) → GoingBare ts (t ∷ rest) at s → step s t ≡ Some next → GoingBare ts rest (at + 1) (bared next)
+pub bare_goes_on : (ts rest : List Terminal) (t : Terminal) (at : ℕ) (s next : State) → GoingBare ts (t ∷ rest) at s → step s t ≡ Some next
+    → GoingBare ts rest (at + 1) (bared next)
 bare_goes_on ts rest t at s next g q = record {
   all = g.all ∙ omega arith;
   ends = sym (outcome_alike rest next (bared next) (bared_alike next)) ∙ sym (ap (λ o. is_some (option_and_then (λ n. outcome rest n) o)) q) ∙ g.ends;

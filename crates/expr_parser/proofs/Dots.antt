@@ -1,17 +1,17 @@
 -- Where dots stand: in a name, a number, an address or a block none is last, or has another behind it.
-use Rattle.std.proofs.Common.{◌≡◌, ℕ, ◌^◌, ◌<◌, Bool, true, false, cond, not, ◌&&◌, List, [], ◌∷◌, ◌++◌, length, codes, decimal, inl, inr, refl, sym, ◌∙◌, ap, arith, append_assoc}
-use Rattle.std.proofs.lemmas.Bool.{cases_Bool, and_parts}
+use Rattle.std.proofs.Common.{◌≡◌, ℕ, ◌^◌, ◌<◌, Bool, true, false, cond, not, ◌&&◌, List, [], ◌∷◌, ◌++◌, length, codes, decimal, inl, inr, refl, sym, ◌∙◌, arith, append_assoc}
+use Rattle.std.proofs.lemmas.Bool.{cases_Bool, and_parts, both_ways, false_from_ne_true}
 use Rattle.std.proofs.lemmas.Bool.Decides.{nat_tests}
 use Rattle.std.proofs.lemmas.Fmt.{decimal_nonempty}
 use Rattle.std.specs.Char.{digit_value}
 use Rattle.std.specs.List.{list_all}
 use Rattle.std.specs.Net.Grammar.{IsDotted, IsGroup, IsGroupsAfter, IsElided, IsColonHex}
-use Rattle.std.specs.Str.Parse.{AllDigits}
 use Rattle.edge_base.specs.declared.address.Addr.{Addr}
 use Rattle.edge_base.specs.declared.address.Addr.TheVariants as addr
 use Rattle.edge_base.specs.Address.{IsAddrText}
 use Rattle.edge_base.specs.Token.{is_digit, is_name_start, is_name_byte, is_name}
-use Rattle.expr_lexer.proofs.StateLemmas.{is_dot, is_rest, name_is, rest_is}
+use Rattle.expr_lexer.proofs.ByteLemmas.{all_by, all_from_digits}
+use Rattle.expr_lexer.proofs.StateLemmas.{is_dot, is_rest, dot_starts_no_name, name_is, rest_is}
 use Rattle.expr_parser.proofs.NumbersRead.{decimal_digits}
 
 -- no dot is last or has another dot behind it, and behind a dot none is first and some byte follows
@@ -32,7 +32,7 @@ spaced-append false (byte ∷ text) more h = elim (cases_Bool (is_dot byte)) [
   | inr other ↦ rw other (spaced-append false text more (rw other at h))
 ]
 
-pub spaced-relax : (text : List ℕ) → is_spaced true text ≡ true → is_spaced false text ≡ true
+spaced-relax : (text : List ℕ) → is_spaced true text ≡ true → is_spaced false text ≡ true
 spaced-relax [] h = refl
 spaced-relax (byte ∷ text) h = elim (cases_Bool (is_dot byte)) [
   | inl dot ↦ absurd (let bad : false ≡ true = rw dot at h in cc)
@@ -77,21 +77,13 @@ hex_is_no_dot : (byte : ℕ) → digit_value byte < 16 → is_no_dot byte ≡ tr
 hex_is_no_dot byte h = grind (arith, nat_tests)
 
 pub digits_have_no_dot : (text : List ℕ) → list_all is_digit text ≡ true → list_all is_no_dot text ≡ true
-digits_have_no_dot [] h = refl
-digits_have_no_dot (byte ∷ text) h = let both : (is_digit byte ≡ true) × (list_all is_digit text ≡ true) = and_parts _ _ h in
-    rw (digit_is_no_dot byte both.0) (digits_have_no_dot text both.1)
-
-hex_has_no_dot : (text : List ℕ) → AllDigits 16 text → list_all is_no_dot text ≡ true
-hex_has_no_dot [] h = refl
-hex_has_no_dot (byte ∷ text) h = rw (hex_is_no_dot byte h.0) (hex_has_no_dot text h.1)
+digits_have_no_dot text h = all_by is_digit is_no_dot digit_is_no_dot text h
 
 -- ---- addresses
 
-pub decimal_spaced : (n : ℕ) → n < 2 ^ 64 → is_spaced true (decimal n) ≡ true
-decimal_spaced n small = undotted_some (decimal n) (decimal_nonempty n small) (digits_have_no_dot (decimal n) (decimal_digits n small))
-
 octet_spaced : (n : ℕ) → n < 256 → is_spaced true (decimal n) ≡ true
-octet_spaced n below = decimal_spaced n (omega arith)
+octet_spaced n below = let small : n < 2 ^ 64 = omega arith in
+    undotted_some (decimal n) (decimal_nonempty n small) (digits_have_no_dot (decimal n) (decimal_digits n small))
 
 four_spaced : (a b c d : List ℕ) → is_spaced true a ≡ true → is_spaced true b ≡ true → is_spaced true c ≡ true → is_spaced true d ≡ true
     → is_spaced true (a ++ 46 ∷ (b ++ 46 ∷ (c ++ 46 ∷ d))) ≡ true
@@ -104,7 +96,7 @@ dotted_spaced text octets h =
     (octet_spaced h.a h.fit.0) (octet_spaced h.b h.fit.1) (octet_spaced h.c h.fit.2) (octet_spaced h.d h.fit.3)))
 
 group_spaced : (text : List ℕ) (segment : ℕ) → IsGroup text segment → is_spaced true text ≡ true
-group_spaced text segment h = undotted_some text h.0.0.0 (hex_has_no_dot text h.0.0.1)
+group_spaced text segment h = undotted_some text h.0.0.0 (all_from_digits 16 is_no_dot hex_is_no_dot text h.0.0.1)
 
 later_spaced : (ipv4 : Bool) (text segments : List ℕ) → IsGroupsAfter ipv4 (codes ":") text segments → is_spaced false text ≡ true
 later_spaced ipv4 text [] h = rw h refl
@@ -144,22 +136,14 @@ pub address_spaced : (text : List ℕ) (a : Addr) → IsAddrText text a → is_s
 address_spaced text (addr.V4 n) h = dotted_spaced text h.0 h.1
 address_spaced text (addr.V6 n) h = colon_hex_spaced text h.0 h.1
 
-pub no_dot_at_end : (text front : List ℕ) (a : Addr) → IsAddrText text a → ¬ (text ≡ front ++ 46 ∷ [])
-no_dot_at_end text front a h same =
-    let bad : true ≡ false = sym (address_spaced text a h) ∙ ap (is_spaced true) same ∙ unspaced true front [] refl in cc
-
-pub no_dot_before_dot : (text front more : List ℕ) (a : Addr) → IsAddrText text a → ¬ (text ≡ front ++ 46 ∷ 46 ∷ more)
-no_dot_before_dot text front more a h same =
-    let bad : true ≡ false = sym (address_spaced text a h) ∙ ap (is_spaced true) same ∙ unspaced true front (46 ∷ more) refl in cc
-
 -- ---- names
 
 start_is_no_dot : (byte : ℕ) → is_name_start byte ≡ true → is_dot byte ≡ false
-start_is_no_dot byte h = grind (arith, nat_tests)
+start_is_no_dot byte h = false_from_ne_true (is_dot byte) (λ dot. both_ways _ (dot_starts_no_name byte dot) h)
 
-pub record NameIsSpaced (text : List ℕ) : Type 0 where
-  pub rest : is_rest text ≡ true → is_spaced false text ≡ true
-  pub name : is_name text ≡ true → is_spaced true text ≡ true
+record NameIsSpaced (text : List ℕ) : Type 0 where
+  rest : is_rest text ≡ true → is_spaced false text ≡ true
+  name : is_name text ≡ true → is_spaced true text ≡ true
 
 rest_step : (byte : ℕ) (text : List ℕ) → NameIsSpaced text → cond (is_dot byte) (is_name text) (is_name_byte byte && is_rest text) ≡ true → is_spaced false (byte ∷ text) ≡ true
 rest_step byte text later h = elim (cases_Bool (is_dot byte)) [
@@ -167,10 +151,13 @@ rest_step byte text later h = elim (cases_Bool (is_dot byte)) [
   | inr other ↦ rw other (later.rest (and_parts (is_name_byte byte) (is_rest text) (rw other at h)).1)
 ]
 
-pub name_spaced : (text : List ℕ) → NameIsSpaced text
-name_spaced [] = record { rest = λ h. refl; name = λ h. absurd (cc) }
-name_spaced (byte ∷ text) = record {
-  rest = λ h. rest_step byte text (name_spaced text) (sym (rest_is byte text) ∙ h);
+in_name : (text : List ℕ) → NameIsSpaced text
+in_name [] = record { rest = λ h. refl; name = λ h. absurd (cc) }
+in_name (byte ∷ text) = record {
+  rest = λ h. rest_step byte text (in_name text) (sym (rest_is byte text) ∙ h);
   name = λ h. let both : (is_name_start byte ≡ true) × (is_rest text ≡ true) = and_parts _ _ (sym (name_is byte text) ∙ h) in
-      rw (start_is_no_dot byte both.0) ((name_spaced text).rest both.1);
+      rw (start_is_no_dot byte both.0) ((in_name text).rest both.1);
 }
+
+pub name_spaced : (text : List ℕ) → is_name text ≡ true → is_spaced true text ≡ true
+name_spaced text h = (in_name text).name h

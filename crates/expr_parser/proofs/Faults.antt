@@ -114,7 +114,7 @@ within_on : (o : Option State) (ts : List Terminal) → ((s : State) → taken t
 within_on None ts h = omega arith
 within_on (Some s) ts h = let p : taken ts s ≤ length ts = h s in omega arith
 
-pub taken_within : (ts : List Terminal) (s : State) → taken ts s ≤ length ts
+taken_within : (ts : List Terminal) (s : State) → taken ts s ≤ length ts
 taken_within [] s = omega arith
 taken_within (t ∷ ts) s = within_on (step s t) ts (λ next. taken_within ts next)
 

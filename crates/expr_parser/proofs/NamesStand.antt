@@ -5,7 +5,7 @@ use Rattle.edge_base.specs.declared.terminal.Terminal.TheVariants as terminal
 use Rattle.edge_base.specs.declared.token.TokenKind.TheVariants as kind
 use Rattle.edge_base.specs.Token.{is_reserved, list_name_of, IsTokenOf}
 use Rattle.edge_base.specs.Terminal.{reserved}
-use Rattle.expr_parser.proofs.Ends.{stands_before_end}
+use Rattle.expr_parser.proofs.BeforeEnds.{stands_before_end}
 use Rattle.expr_parser.proofs.Written.{ends_before, StandsFor}
 
 pub name_stands : (name rest : List ℕ) → IsTokenOf kind.Name name → ends_before rest ≡ true → StandsFor kind.Name name rest (terminal.Name name)

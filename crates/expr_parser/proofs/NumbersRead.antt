@@ -1,31 +1,23 @@
 -- A printed number is read as the same one, and so are the bits of a block.
-use Rattle.std.proofs.Common.{◌≡◌, ℕ, zero, suc, ◌+◌, ◌-◌, ◌*◌, ◌^◌, ◌<◌, ◌≤◌, Bool, true, false, cond, ◌&&◌, nat_le, ◌==◌, List, [], ◌∷◌, get_or, Option, Some, None, option_map, codes, bytes_eq, decimal, ℤ, pos, negsuc, neg_ℤ, inl, inr, refl, ap, subst, arith, leb-true, le-leb}
-use Rattle.std.proofs.lemmas.Bool.{cases_Bool, and_parts, and_from}
+use Rattle.std.proofs.Common.{◌≡◌, ℕ, zero, suc, ◌+◌, ◌-◌, ◌*◌, ◌^◌, ◌<◌, ◌≤◌, true, false, ◌&&◌, nat_le, ◌==◌, List, [], ◌∷◌, get_or, Option, Some, None, option_map, codes, bytes_eq, decimal, ℤ, pos, negsuc, neg_ℤ, inl, inr, refl, ap, subst, arith, leb-true, le-leb, ne_eqb}
+use Rattle.std.proofs.lemmas.Bool.{cases_Bool, and_parts}
 use Rattle.std.proofs.lemmas.Bool.Decides.{nat_tests}
+use Rattle.std.proofs.lemmas.Option.{cond_some}
 use Rattle.std.proofs.lemmas.Fmt.{decimal_is_IsNumeral, first_decimal, decimal_digit}
 use Rattle.std.specs.Char.{digit_value}
 use Rattle.std.specs.List.{list_all}
-use Rattle.std.specs.Str.Parse.{AllDigits, digits_value}
+use Rattle.std.specs.Str.Parse.{digits_value}
 use Rattle.edge_base.specs.Token.{is_digit, is_counting, size_of, number_of, bits_of}
+use Rattle.expr_lexer.proofs.ByteLemmas.{all_digits, digit_counts, digit_is_no_minus, counted_is_digit, counted_is_not_zero}
 use Rattle.expr_lexer.proofs.StateLemmas.{digits_grow}
 use Rattle.expr_parser.specs.Spelling.{signed}
 
 -- ---- digits that count
 
-decimal_byte : (byte : ℕ) → digit_value byte < 10 → is_digit byte ≡ true
-decimal_byte byte below = grind (arith, nat_tests)
-
-pub all_digits : (text : List ℕ) → AllDigits 10 text → list_all is_digit text ≡ true
-all_digits [] h = refl
-all_digits (byte ∷ text) h = and_from _ _ (decimal_byte byte h.0) (all_digits text h.1)
-
-first_counts : (byte : ℕ) → 48 < byte → is_digit byte ≡ true → (nat_le 49 byte && nat_le byte 57) ≡ true
-first_counts byte above digit = grind (arith, nat_tests)
-
 counts : (text : List ℕ) → 48 < get_or text 0 0 → list_all is_digit text ≡ true → is_counting text ≡ true
 counts [] above digits = absurd (omega arith)
 counts (byte ∷ text) above digits = let both : (is_digit byte ≡ true) × (list_all is_digit text ≡ true) = and_parts _ _ digits in
-    let first : (nat_le 49 byte && nat_le byte 57) ≡ true = first_counts byte above both.0 in
+    let first : (nat_le 49 byte && nat_le byte 57) ≡ true = digit_counts byte both.0 (ne_eqb byte 48 (λ same. omega (arith, above, same))) in
     rw (first, both.1) refl
 
 first_value : (byte : ℕ) → (nat_le 49 byte && nat_le byte 57) ≡ true → 0 < digit_value byte
@@ -37,27 +29,23 @@ counting_is_positive (byte ∷ text) h = let both : ((nat_le 49 byte && nat_le b
     omega (arith, first_value byte both.0, digits_grow (0 * 10 + digit_value byte) text)
 
 -- a size that digits write is in range
-pub record IsSized (most size : ℕ) : Type 0 where
-  pub positive : 0 < size
-  pub within : size ≤ most
+record IsSized (most size : ℕ) : Type 0 where
+  positive : 0 < size
+  within : size ≤ most
 
-some_cond : (test : Bool) (n m : ℕ) → cond test (Some n) None ≡ Some m → (test ≡ true) × (n ≡ m)
-some_cond true n m h = (refl, cc)
-some_cond false n m h = absurd (cc)
-
-pub size_in_range : (most : ℕ) (digits : List ℕ) (size : ℕ) → size_of most digits ≡ Some size → IsSized most size
+size_in_range : (most : ℕ) (digits : List ℕ) (size : ℕ) → size_of most digits ≡ Some size → IsSized most size
 size_in_range most digits size h =
-    let found : ((is_counting digits && nat_le (digits_value 10 digits) most) ≡ true) × (digits_value 10 digits ≡ size) = some_cond _ _ _ h in
+    let found : ((is_counting digits && nat_le (digits_value 10 digits) most) ≡ true) × (digits_value 10 digits ≡ size) = cond_some _ _ _ h in
     let both : (is_counting digits ≡ true) × (nat_le (digits_value 10 digits) most ≡ true) = and_parts _ _ found.0 in
     record { positive = omega (arith, counting_is_positive digits both.0); within = omega (arith, leb-true _ _ both.1) }
 
 pub decimal_digits : (n : ℕ) → n < 2 ^ 64 → list_all is_digit (decimal n) ≡ true
 decimal_digits n small = all_digits (decimal n) (decimal_is_IsNumeral n small).0.1
 
-pub decimal_counts : (n : ℕ) → 0 < n → n < 2 ^ 64 → is_counting (decimal n) ≡ true
+decimal_counts : (n : ℕ) → 0 < n → n < 2 ^ 64 → is_counting (decimal n) ≡ true
 decimal_counts n some small = counts (decimal n) (first_decimal n some small) (decimal_digits n small)
 
-pub decimal_has_size : (most n : ℕ) → IsSized most n → most < 2 ^ 64 → size_of most (decimal n) ≡ Some n
+decimal_has_size : (most n : ℕ) → IsSized most n → most < 2 ^ 64 → size_of most (decimal n) ≡ Some n
 decimal_has_size most n h room =
     let small : n < 2 ^ 64 = omega (arith, h.within) in
     let counted : is_counting (decimal n) ≡ true = decimal_counts n h.positive small in
@@ -91,19 +79,13 @@ number_in_range (byte ∷ text) n h = elim (cases_Bool (bytes_eq (byte ∷ text)
   ]
 ]
 
-counted_is_not_zero : (byte : ℕ) → (nat_le 49 byte && nat_le byte 57) ≡ true → (byte == 48) ≡ false
-counted_is_not_zero byte h = grind (arith, nat_tests)
-
-counted_is_no_minus : (byte : ℕ) → (nat_le 49 byte && nat_le byte 57) ≡ true → (byte == 45) ≡ false
-counted_is_no_minus byte h = grind (arith, nat_tests)
-
 not_lone_zero : (byte : ℕ) (text : List ℕ) → (byte == 48) ≡ false → bytes_eq (byte ∷ text) (codes "0") ≡ false
 not_lone_zero byte text h = rw h refl
 
 counted_number : (text : List ℕ) (size : ℕ) → is_counting text ≡ true → size_of (2 ^ 63 - 1) text ≡ Some size → number_of text ≡ Some (pos size)
 counted_number [] size h k = absurd (cc)
 counted_number (byte ∷ text) size h k = let first : (nat_le 49 byte && nat_le byte 57) ≡ true = (and_parts _ _ h).0 in
-    rw (not_lone_zero byte text (counted_is_not_zero byte first), counted_is_no_minus byte first, k) refl
+    rw (not_lone_zero byte text (counted_is_not_zero byte first), digit_is_no_minus byte (counted_is_digit byte first), k) refl
 
 signed_is_read : (n : ℤ) → IsInI64 n → number_of (signed n) ≡ Some n
 signed_is_read (pos zero) h = rw (decimal_digit 0 (omega arith)) refl
@@ -117,24 +99,21 @@ number_is_read n text h = signed_is_read n (number_in_range text n h)
 
 -- ---- bits
 
-pub record IsInBits (bits : ℕ) : Type 0 where
-  pub within : bits ≤ 999
-
-pub bits_in_range : (text : List ℕ) (bits : ℕ) → bits_of text ≡ Some bits → IsInBits bits
+bits_in_range : (text : List ℕ) (bits : ℕ) → bits_of text ≡ Some bits → bits ≤ 999
 bits_in_range text bits h = elim (cases_Bool (bytes_eq text (codes "0"))) [
-  | inl lone ↦ let found : Some 0 ≡ Some bits = rw lone at h in let same : 0 ≡ bits = cc in record { within = omega arith }
-  | inr other ↦ record { within = (size_in_range 999 text bits (rw other at h)).within }
+  | inl lone ↦ let found : Some 0 ≡ Some bits = rw lone at h in let same : 0 ≡ bits = cc in omega (arith, same)
+  | inr other ↦ (size_in_range 999 text bits (rw other at h)).within
 ]
 
 counted_is_not_lone : (text : List ℕ) → is_counting text ≡ true → bytes_eq text (codes "0") ≡ false
 counted_is_not_lone [] h = absurd (cc)
 counted_is_not_lone (byte ∷ text) h = not_lone_zero byte text (counted_is_not_zero byte (and_parts _ _ h).0)
 
-in_bits_are_read : (bits : ℕ) → IsInBits bits → bits_of (decimal bits) ≡ Some bits
+in_bits_are_read : (bits : ℕ) → bits ≤ 999 → bits_of (decimal bits) ≡ Some bits
 in_bits_are_read zero h = rw (decimal_digit 0 (omega arith)) refl
 in_bits_are_read (suc n) h =
-    rw (counted_is_not_lone (decimal (suc n)) (decimal_counts (suc n) (omega arith) (omega (arith, h.within))))
-    (decimal_has_size 999 (suc n) (record { positive = omega arith; within = h.within }) (omega arith))
+    rw (counted_is_not_lone (decimal (suc n)) (decimal_counts (suc n) (omega arith) (omega (arith, h))))
+    (decimal_has_size 999 (suc n) (record { positive = omega arith; within = h }) (omega arith))
 
 pub bits_are_read : (bits : ℕ) (text : List ℕ) → bits_of text ≡ Some bits → bits_of (decimal bits) ≡ Some bits
 bits_are_read bits text h = in_bits_are_read bits (bits_in_range text bits h)

@@ -1,5 +1,5 @@
 -- Terminals go wrong at one place, whatever finds it; and the loop that reads them finds it.
-use Rattle.std.proofs.Common.{◌≡◌, ℕ, suc, ◌+◌, ◌<◌, ◌≤◌, List, [], ◌∷◌, ◌++◌, length, take, drop, refl, ap, subst, ◌∙◌, sym, arith, append_assoc}
+use Rattle.std.proofs.Common.{◌≡◌, ℕ, ◌+◌, ◌<◌, ◌≤◌, List, [], ◌∷◌, ◌++◌, length, take, drop, ap, subst, ◌∙◌, sym, arith, append_assoc}
 use Rattle.std.proofs.lemmas.List.{take-append-drop, take-take}
 use Rattle.std.specs.declared.option.Option.TheVariants.{None, Some}
 use Rattle.std.specs.Option.{option_and_then}
@@ -16,16 +16,6 @@ pub record Going (ts rest : List Terminal) (at : ℕ) (s : State) : Type 0 where
   pub all : length ts ≡ at + length rest
   pub tree : outcome rest s ≡ outcome ts start
   pub place : at + taken rest s ≡ taken ts start
-
-pub begun : (ts : List Terminal) → Going ts ts 0 start
-begun ts = record { all = omega arith; tree = refl; place = omega arith }
-
-pub goes_on : (ts rest : List Terminal) (t : Terminal) (at : ℕ) (s next : State) → Going ts (t ∷ rest) at s → step s t ≡ Some next → Going ts rest (at + 1) next
-goes_on ts rest t at s next g q = record {
-  all = g.all ∙ omega arith;
-  tree = sym (ap (λ o. option_and_then (λ n. outcome rest n) o) q) ∙ g.tree;
-  place = (let p : counted (λ n. taken rest n) (step s t) ≡ suc (taken rest next) = ap (λ o. counted (λ n. taken rest n) o) q in omega (arith, g.place));
-}
 
 pub refused_here : (ts rest : List Terminal) (t : Terminal) (at : ℕ) (s : State) → Going ts (t ∷ rest) at s → step s t ≡ None → IsFault ts at
 refused_here ts rest t at s g q =

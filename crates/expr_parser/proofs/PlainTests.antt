@@ -35,7 +35,7 @@ test_prints in_list = refl
 test_prints (in_items q) = ap (λ ts. terminal.In ∷ terminal.OpenItems ∷ ts ++ terminal.CloseItems ∷ []) (items_print q)
 
 -- the terminal opens, closes and joins nothing, and is no `not`
-abbrev pub Plain : Terminal → Type 0
+abbrev Plain : Terminal → Type 0
 Plain terminal.Not = ⊥
 Plain terminal.Open = ⊥
 Plain terminal.Close = ⊥
@@ -62,7 +62,7 @@ plain_max base d = omega arith
 pub plain_one : {t : Terminal} → Plain t → Rises (t ∷ []) 0
 plain_one {t} h = record { scan = λ pending around rest. plain_scan t h pending around rest ∙ plain_max (open_now pending around) (deepest rest pending around) }
 
-pub plain_two : {t u : Terminal} → Plain t → Plain u → Rises (t ∷ u ∷ []) 0
+plain_two : {t u : Terminal} → Plain t → Plain u → Rises (t ∷ u ∷ []) 0
 plain_two h i = append_rises (plain_one h) (plain_one i)
 
 pub plain_three : {t u v : Terminal} → Plain t → Plain u → Plain v → Rises (t ∷ u ∷ v ∷ []) 0

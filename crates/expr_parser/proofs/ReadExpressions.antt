@@ -280,7 +280,8 @@ mutual
       ∙ read_path d (terminal.OpenIndex ∷ terminal.Star ∷ terminal.CloseIndex ∷ rest) tt f below
 
   read_arguments : {ts : List Terminal} {es : List Expr} → IsArguments ts es → (rest : List Terminal) (n : List ℕ) (front : List Expr) (f : Frame) (below : List Level)
-      → outcome (ts ++ terminal.Close ∷ rest) (state mode.Begin fresh (level (opened.Call n front) f ∷ below)) ≡ outcome rest (state (mode.Path (expr.Call n (front ++ es))) f below)
+      → outcome (ts ++ terminal.Close ∷ rest) (state mode.Begin fresh (level (opened.Call n front) f ∷ below))
+      ≡ outcome rest (state (mode.Path (expr.Call n (front ++ es))) f below)
   read_arguments (one_argument d) rest n front f below = read_expression d (terminal.Close ∷ rest) tt (level (opened.Call n front) f ∷ below)
   read_arguments (more_arguments {ts} {rest = back} {e} {es} d ds) rest n front f below =
       ap (λ xs. outcome xs (state mode.Begin fresh (level (opened.Call n front) f ∷ below))) (append_assoc ts (terminal.Comma ∷ back) (terminal.Close ∷ rest))

@@ -58,7 +58,8 @@ items_not_to (one_item d) rest = item_not_to d rest
 items_not_to (more_items {ts} {rest = back} d ds) rest = rw (append_assoc ts back rest) (item_not_to d (back ++ rest))
 
 read_items : {ts : List Terminal} {is : List Item} → IsItems ts is → (rest : List Terminal) (e : Expr) (front : List Item) (f : Frame) (below : List Level)
-    → outcome (ts ++ terminal.CloseItems ∷ rest) (state (mode.Testing e (testing.Items front)) f below) ≡ outcome rest (state (mode.Done (expr.Test e (test.Among (front ++ is)))) f below)
+    → outcome (ts ++ terminal.CloseItems ∷ rest) (state (mode.Testing e (testing.Items front)) f below)
+    ≡ outcome rest (state (mode.Done (expr.Test e (test.Among (front ++ is)))) f below)
 read_items (one_item d) rest e front f below = read_item d (terminal.CloseItems ∷ rest) tt e front f below
 read_items (more_items {ts} {rest = back} {i} {is} d ds) rest e front f below =
     ap (λ xs. outcome xs (state (mode.Testing e (testing.Items front)) f below)) (append_assoc ts back (terminal.CloseItems ∷ rest))

@@ -6,8 +6,8 @@ use Rattle.expr_parser.specs.Parsed.{IsTokenized, IsAnswer, AnswersAreUnique}
 use Rattle.expr_parser.specs.Spelling.{spelling}
 use Rattle.expr_parser.specs.Reread.{IsReadAs, IsReadAgain, SpellingsAreParsedAgain}
 use Rattle.expr_parser.proofs.CutInto.{cut_of}
-use Rattle.expr_parser.proofs.Derived.{printed_derives}
-use Rattle.expr_parser.proofs.Nested.{printed_nests_no_deeper}
+use Rattle.expr_parser.proofs.PrintedDerives.{printed_derives}
+use Rattle.expr_parser.proofs.PrintedNests.{printed_nests_no_deeper}
 use Rattle.expr_parser.proofs.PrintedTrees.{printed_is_cut_into}
 use Rattle.expr_parser.proofs.Sound.{sound_of_cut}
 use Rattle.expr_parser.proofs.TreeTerminals.{terminals_at}

@@ -1,5 +1,5 @@
 -- Signs stand for their terminals before any rest.
-use Rattle.std.proofs.Common.{◌≡◌, ℕ, ◌==◌, true, false, List, [], ◌∷◌, Option, Some, None, inl, inr, refl, sym, ◌∙◌, ap, arith}
+use Rattle.std.proofs.Common.{◌≡◌, ℕ, ◌==◌, true, false, List, [], ◌∷◌, take, Option, Some, None, inl, inr, refl, sym, ◌∙◌, ap, arith}
 use Rattle.std.proofs.lemmas.Bool.{cases_Bool, both_ways}
 use Rattle.std.proofs.lemmas.Bool.Decides.{nat_tests}
 use Rattle.edge_base.specs.declared.terminal.Terminal.{Terminal}
@@ -7,7 +7,6 @@ use Rattle.edge_base.specs.declared.terminal.Terminal.TheVariants as terminal
 use Rattle.edge_base.specs.declared.token.TokenKind.{TokenKind}
 use Rattle.edge_base.specs.declared.token.TokenKind.TheVariants as kind
 use Rattle.edge_base.specs.Token.{is_digit, is_name_start, IsTokenOf}
-use Rattle.edge_base.specs.Cut.{may_stand_before}
 use Rattle.edge_base.specs.Terminal.{symbol}
 use Rattle.expr_lexer.specs.declared.scanner.State.{State}
 use Rattle.expr_lexer.specs.declared.scanner.State.TheVariants as state
@@ -16,12 +15,8 @@ use Rattle.expr_lexer.specs.Fronts.{is_scanned}
 use Rattle.expr_lexer.proofs.KindLemmas.{scan_gives}
 use Rattle.expr_lexer.proofs.LongestLemmas.{shape_of, token_is_read}
 use Rattle.expr_parser.proofs.BlockBytes.{is_first_byte, unscanned_begins}
-use Rattle.expr_parser.proofs.LongestWhere.{EndsThere, longest_where}
+use Rattle.expr_parser.proofs.LongestWhere.{EndsThere, longest_where, may_stand_anywhere}
 use Rattle.expr_parser.proofs.Written.{StandsFor}
-
-sign_may_stand : (rest : List ℕ) → may_stand_before kind.Symbol rest ≡ true
-sign_may_stand [] = refl
-sign_may_stand (byte ∷ rest) = refl
 
 -- ---- signs of one byte that begin no other
 
@@ -58,12 +53,13 @@ none_past_sign byte next more other lone longer = elim (cases_Bool (is_scanned o
 ]
 
 sign_ends : (byte : ℕ) (rest : List ℕ) → is_lone byte ≡ true → EndsThere (byte ∷ []) rest
-sign_ends byte rest lone = λ next behind more other is longer. none_past_sign byte next more other lone longer
+sign_ends byte [] lone = tt
+sign_ends byte (next ∷ behind) lone = λ size other longer. none_past_sign byte next (take size behind) other lone longer
 
 pub sign_stands : (byte : ℕ) (rest : List ℕ) (t : Terminal) → is_lone byte ≡ true → symbol (byte ∷ []) ≡ Some t → StandsFor kind.Symbol (byte ∷ []) rest t
 sign_stands byte rest t lone stands = record {
   longest = longest_where kind.Symbol (byte ∷ []) rest (scan_gives (byte ∷ []) kind.Symbol (lone_reads byte [] lone)) (sign_ends byte rest lone);
-  neighbour = sign_may_stand rest;
+  neighbour = may_stand_anywhere kind.Symbol rest refl;
   is_terminal = stands;
 }
 
@@ -76,11 +72,12 @@ none_past_range_sign next more other longer = elim (cases_Bool (is_scanned other
 ]
 
 range_sign_ends : (rest : List ℕ) → EndsThere (46 ∷ 46 ∷ []) rest
-range_sign_ends rest = λ next behind more other is longer. none_past_range_sign next more other longer
+range_sign_ends [] = tt
+range_sign_ends (next ∷ behind) = λ size other longer. none_past_range_sign next (take size behind) other longer
 
 pub range_sign_stands : (rest : List ℕ) → StandsFor kind.Symbol (46 ∷ 46 ∷ []) rest terminal.To
 range_sign_stands rest = record {
   longest = longest_where kind.Symbol (46 ∷ 46 ∷ []) rest refl (range_sign_ends rest);
-  neighbour = sign_may_stand rest;
+  neighbour = may_stand_anywhere kind.Symbol rest refl;
   is_terminal = refl;
 }

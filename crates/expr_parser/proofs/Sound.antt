@@ -1,8 +1,8 @@
 -- The terminals of a text's tokens have the values of some tokens.
-use Rattle.std.proofs.Common.{◌≡◌, ℕ, ◌==◌, ◌&&◌, Bool, true, false, not, cond, ℤ, arith, List, [], ◌∷◌, ◌++◌, length, refl, sym, subst, bytes_eq}
+use Rattle.std.proofs.Common.{◌≡◌, ℕ, ◌==◌, ◌&&◌, Bool, true, false, not, cond, ℤ, List, [], ◌∷◌, ◌++◌, length, refl, sym, subst, eqb-true, bytes_eq}
 use Rattle.std.specs.Prelude.{option_map}
 use Rattle.std.specs.List.{list_all}
-use Rattle.std.proofs.lemmas.Bool.Decides.{nat_tests}
+use Rattle.std.proofs.lemmas.Bool.{and_parts}
 use Rattle.std.specs.declared.option.Option.{Option}
 use Rattle.std.specs.declared.option.Option.TheVariants.{None, Some}
 use Rattle.edge_base.specs.declared.terminal.Terminal.{Terminal}
@@ -35,10 +35,6 @@ text_is_sound : (t : Terminal) (found : Option (List ℕ)) → option_map termin
 text_is_sound t None h = absurd cc
 text_is_sound t (Some text) h = (let same : terminal.Text text ≡ t = cc in subst IsSound same tt)
 
-first_holds : (a b : Bool) → (a && b) ≡ true → a ≡ true
-first_holds true b h = refl
-first_holds false b h = absurd cc
-
 -- a list's name that is taken has its `$` and is the rest
 list_name_by : (byte : ℕ) (text : List ℕ) (t : Terminal) (here : Bool) → (here ≡ true → byte ≡ 36) → list_name_of (byte ∷ text) ≡ cond here (Some text) None
     → option_map terminal.ListName (cond here (Some text) None) ≡ Some t → IsSound t
@@ -48,17 +44,18 @@ list_name_by byte text t true first is h =
     subst IsSound same (subst (λ b. list_name_of (b ∷ text) ≡ Some text) (first refl) is)
 
 dollar : (byte : ℕ) (a b : Bool) → (byte == 36 && a && b) ≡ true → byte ≡ 36
-dollar byte a b h = grind (arith, nat_tests, first_holds (byte == 36) a (first_holds (byte == 36 && a) b h))
+dollar byte a b h = eqb-true byte 36 (and_parts (byte == 36) a (and_parts (byte == 36 && a) b h).0).0
 
 list_name_is_sound : (text : List ℕ) (t : Terminal) → option_map terminal.ListName (list_name_of text) ≡ Some t → IsSound t
 list_name_is_sound [] t h = absurd cc
 list_name_is_sound (byte ∷ text) t h =
     list_name_by byte text t (byte == 36 && not (length text == 0) && list_all is_name_byte text) (dollar byte (not (length text == 0)) (list_all is_name_byte text)) refl h
 
-pub sound_terminal : (k : TokenKind) (text : List ℕ) (t : Terminal) → IsTokenOf k text → IsTerminalOf k text t → IsSound t
+sound_terminal : (k : TokenKind) (text : List ℕ) (t : Terminal) → IsTokenOf k text → IsTerminalOf k text t → IsSound t
 sound_terminal kind.Name text t token h = subst IsSound (sym h) token
 sound_terminal kind.Reserved text t token h =
-    spelled_is_sound (joining_words ++ (order_words ++ (test_words ++ truth_words))) text t (tt, (tt, (tt, (tt, (tt, (tt, (tt, (tt, (tt, (tt, (tt, (tt, (tt, (tt, (tt, (tt, (tt, tt))))))))))))))))) h
+    spelled_is_sound (joining_words ++ (order_words ++ (test_words ++ truth_words))) text t
+    (tt, (tt, (tt, (tt, (tt, (tt, (tt, (tt, (tt, (tt, (tt, (tt, (tt, (tt, (tt, (tt, (tt, tt))))))))))))))))) h
 sound_terminal kind.Number text t token h = number_is_sound text t (number_of text) refl h
 sound_terminal kind.Address text t token h = subst IsSound (sym h.2) (text, h.1)
 sound_terminal kind.Block text t token h = subst IsSound (sym h.3) (text, h.2)
@@ -66,9 +63,11 @@ sound_terminal kind.Text text t token h = text_is_sound t (text_of text) h
 sound_terminal kind.RawText text t token h = text_is_sound t (raw_text_of text) h
 sound_terminal kind.ListName text t token h = list_name_is_sound text t h
 sound_terminal kind.Symbol text t token h =
-    spelled_is_sound (brackets ++ (marks ++ (joining_signs ++ (order_signs ++ test_signs)))) text t (tt, (tt, (tt, (tt, (tt, (tt, (tt, (tt, (tt, (tt, (tt, (tt, (tt, (tt, (tt, (tt, (tt, (tt, (tt, (tt, tt)))))))))))))))))))) h
+    spelled_is_sound (brackets ++ (marks ++ (joining_signs ++ (order_signs ++ test_signs)))) text t
+    (tt, (tt, (tt, (tt, (tt, (tt, (tt, (tt, (tt, (tt, (tt, (tt, (tt, (tt, (tt, (tt, (tt, (tt, (tt, (tt, tt)))))))))))))))))))) h
 
-sound_between : (text : List ℕ) (start end : ℕ) (tokens : List Token) (ts : List Terminal) → IsCutBetween text start end tokens → AreTerminals (words_of text tokens) ts → AreSound ts
+sound_between : (text : List ℕ) (start end : ℕ) (tokens : List Token) (ts : List Terminal) → IsCutBetween text start end tokens → AreTerminals (words_of text tokens) ts
+    → AreSound ts
 sound_between text start end [] [] cut h = tt
 sound_between text start end [] (t ∷ ts) cut h = absurd h
 sound_between text start end (token ∷ tokens) [] cut h = absurd h

@@ -53,7 +53,8 @@ escaped_text-append [] ys = refl
 escaped_text-append (x ∷ xs) ys =
     ap (λ rest. escaped_one x ++ rest) (escaped_text-append xs ys) ∙ sym (append_assoc (escaped_one x) (escaped_text xs) (escaped_text ys))
 
-pub escaped_text-take_more : (text : List ℕ) (i : ℕ) → i < length text → escaped_text (take (i + 1) text) ≡ escaped_text (take i text) ++ cond (get_or text i 0 == 34 || get_or text i 0 == 92) (92 ∷ get_or text i 0 ∷ []) (get_or text i 0 ∷ [])
+pub escaped_text-take_more : (text : List ℕ) (i : ℕ) → i < length text
+    → escaped_text (take (i + 1) text) ≡ escaped_text (take i text) ++ cond (get_or text i 0 == 34 || get_or text i 0 == 92) (92 ∷ get_or text i 0 ∷ []) (get_or text i 0 ∷ [])
 escaped_text-take_more text i below =
     ap escaped_text (take_more text i 0 below)
     ∙ escaped_text-append (take i text) (get_or text i 0 ∷ [])
@@ -64,7 +65,8 @@ items_spelling-append [] ys = refl
 items_spelling-append (x ∷ xs) ys =
     ap (λ rest. item_spelling x ++ 32 ∷ rest) (items_spelling-append xs ys) ∙ sym (append_assoc (item_spelling x) (32 ∷ items_spelling xs) (items_spelling ys))
 
-pub items_spelling-take_more : (items : List Item) (i : ℕ) (d : Item) → i < length items → items_spelling (take (i + 1) items) ≡ items_spelling (take i items) ++ (item_spelling (get_or items i d) ++ 32 ∷ [])
+pub items_spelling-take_more : (items : List Item) (i : ℕ) (d : Item) → i < length items
+    → items_spelling (take (i + 1) items) ≡ items_spelling (take i items) ++ (item_spelling (get_or items i d) ++ 32 ∷ [])
 items_spelling-take_more items i d below =
     ap items_spelling (take_more items i d below) ∙ items_spelling-append (take i items) (get_or items i d ∷ [])
 
@@ -73,7 +75,7 @@ abbrev pub joint_behind : List ℕ → List SpelledAt → List ℕ
 joint_behind joint [] = []
 joint_behind joint (s ∷ rest) = joint
 
-pub joined-push : (joint : List ℕ) (n : ℕ) (xs : List SpelledAt) (y : SpelledAt) → joined joint n (xs ++ y ∷ []) ≡ joined joint n xs ++ (joint_behind joint xs ++ y n)
+joined-push : (joint : List ℕ) (n : ℕ) (xs : List SpelledAt) (y : SpelledAt) → joined joint n (xs ++ y ∷ []) ≡ joined joint n xs ++ (joint_behind joint xs ++ y n)
 joined-push joint n [] y = refl
 joined-push joint n (x ∷ []) y = append_assoc (x n) joint (y n)
 joined-push joint n (x ∷ z ∷ xs) y =
@@ -96,8 +98,11 @@ pub joined-take_more : (joint : List ℕ) (n : ℕ) (members : List Expr) (at : 
 joined-take_more joint n members at d begun out mid new below same p q r =
     let front : List SpelledAt = map spelling_at (take at members) in
     let more : map spelling_at (take (at + 1) members) ≡ front ++ spelling_at d ∷ [] =
-    ap (λ v. map spelling_at v) (take_more members at d below) ∙ map-append spelling_at (take at members) (get_or members at d ∷ []) ∙ ap (λ e. front ++ spelling_at e ∷ []) (sym same) in
-    let regroup : ((begun ++ joined joint n front) ++ joint_behind joint front) ++ spelling_at d n ≡ begun ++ (joined joint n front ++ (joint_behind joint front ++ spelling_at d n)) = simp append_assoc in
+    ap (λ v. map spelling_at v) (take_more members at d below) ∙ map-append spelling_at (take at members) (get_or members at d ∷ [])
+    ∙ ap (λ e. front ++ spelling_at e ∷ []) (sym same) in
+    let regroup : ((begun ++ joined joint n front) ++ joint_behind joint front) ++ spelling_at d n
+    ≡ begun ++ (joined joint n front ++ (joint_behind joint front ++ spelling_at d n))
+    = simp append_assoc in
     r ∙ ap (λ v. v ++ spelling_at d n) (q ∙ ap (λ v. v ++ joint_behind joint front) p)
     ∙ regroup
     ∙ ap (λ v. begun ++ v) (sym (joined-push joint n front (spelling_at d)))

@@ -24,16 +24,16 @@ use Rattle.expr_parser.specs.Testing.{text_test}
 use Rattle.expr_parser.specs.Machine.{frame, fresh, negate, and_of, xor_of}
 
 -- these terminals, with a chain, xor, and or unit behind them, are one whose first members are these
-abbrev pub OrFront : List Expr → List Terminal → Type 0
+abbrev OrFront : List Expr → List Terminal → Type 0
 OrFront ors x = (a : List Terminal) (es : List Expr) → IsChain a es → IsChain (x ++ a) (ors ++ es)
 
-abbrev pub XorFront : List Expr → List Terminal → Type 0
+abbrev XorFront : List Expr → List Terminal → Type 0
 XorFront xors x = (a : List Terminal) (us : List Expr) → IsXor a us → IsXor (x ++ a) (xors ++ us)
 
-abbrev pub AndFront : List Expr → List Terminal → Type 0
+abbrev AndFront : List Expr → List Terminal → Type 0
 AndFront ands x = (a : List Terminal) (us : List Expr) → IsAnd a us → IsAnd (x ++ a) (ands ++ us)
 
-abbrev pub NotFront : ℕ → List Terminal → Type 0
+abbrev NotFront : ℕ → List Terminal → Type 0
 NotFront n x = (a : List Terminal) (u : Expr) → IsUnit a u → IsUnit (x ++ a) (negate n u)
 
 -- a level has these terminals
@@ -194,7 +194,8 @@ level_not f x s = record {
   spelled = rw s.spelled (simp append_assoc);
 }
 
-pub level_and : (f : Frame) (x a : List Terminal) (u : Expr) → Spells f x → IsUnit a u → Spells (frame f.ors f.xors (f.ands ++ negate f.nots u ∷ []) 0) (x ++ (a ++ terminal.And ∷ []))
+pub level_and : (f : Frame) (x a : List Terminal) (u : Expr) → Spells f x → IsUnit a u
+    → Spells (frame f.ors f.xors (f.ands ++ negate f.nots u ∷ []) 0) (x ++ (a ++ terminal.And ∷ []))
 level_and f x a u s d = record {
   c = s.c;
   w = s.w;
@@ -202,7 +203,8 @@ level_and f x a u s d = record {
   n = [];
   ors = s.ors;
   xors = s.xors;
-  ands = λ b us q. and_at _ _ _ _ (s.ands ((s.n ++ a) ++ terminal.And ∷ b) (negate f.nots u ∷ us) (more_units (s.nots a u d) q)) (simp append_assoc) (sym (append_assoc f.ands (negate f.nots u ∷ []) us));
+  ands = λ b us q. and_at _ _ _ _ (s.ands ((s.n ++ a) ++ terminal.And ∷ b) (negate f.nots u ∷ us) (more_units (s.nots a u d) q)) (simp append_assoc)
+      (sym (append_assoc f.ands (negate f.nots u ∷ []) us));
   nots = λ b v q. q;
   spelled = rw s.spelled (simp (append_assoc, append-nil));
 }
@@ -214,7 +216,8 @@ level_xor f x a u s d = record {
   j = [];
   n = [];
   ors = s.ors;
-  xors = λ b us q. xor_at _ _ _ _ (s.xors ((s.j ++ (s.n ++ a)) ++ terminal.Xor ∷ b) (and_of f u ∷ us) (more_ands (and_whole f x a u s d) q)) (simp append_assoc) (sym (append_assoc f.xors (and_of f u ∷ []) us));
+  xors = λ b us q. xor_at _ _ _ _ (s.xors ((s.j ++ (s.n ++ a)) ++ terminal.Xor ∷ b) (and_of f u ∷ us) (more_ands (and_whole f x a u s d) q)) (simp append_assoc)
+      (sym (append_assoc f.xors (and_of f u ∷ []) us));
   ands = λ b us q. q;
   nots = λ b v q. q;
   spelled = rw s.spelled (simp (append_assoc, append-nil));
@@ -226,7 +229,8 @@ level_or f x a u s d = record {
   w = [];
   j = [];
   n = [];
-  ors = λ b us q. chain_at _ _ _ _ (s.ors ((s.w ++ (s.j ++ (s.n ++ a))) ++ terminal.Or ∷ b) (xor_of f u ∷ us) (more_xors (xor_whole f x a u s d) q)) (simp append_assoc) (sym (append_assoc f.ors (xor_of f u ∷ []) us));
+  ors = λ b us q. chain_at _ _ _ _ (s.ors ((s.w ++ (s.j ++ (s.n ++ a))) ++ terminal.Or ∷ b) (xor_of f u ∷ us) (more_xors (xor_whole f x a u s d) q)) (simp append_assoc)
+      (sym (append_assoc f.ors (xor_of f u ∷ []) us));
   xors = λ b us q. q;
   ands = λ b us q. q;
   nots = λ b v q. q;

@@ -48,7 +48,8 @@ literal_completed (o ∷ below) t l h d = literal_completed_in o.opened t l h d
 group_unit : (opening a : List Terminal) (e : Expr) → opening ≡ terminal.Open ∷ [] → Completed opened.Group a e → IsUnit (opening ++ (a ++ terminal.Close ∷ [])) e
 group_unit opening a e p c = rw (p, c.2) (group c.1)
 
-close_next : (o : Opened) (e : Expr) (f : Frame) (below : List Level) (outer inner opening a : List Terminal) → Around below outer → Spells f inner → Opening o opening → Completed o a e
+close_next : (o : Opened) (e : Expr) (f : Frame) (below : List Level) (outer inner opening a : List Terminal) → Around below outer → Spells f inner → Opening o opening
+    → Completed o a e
     → StandsFor (closed e o f below) (((outer ++ (inner ++ opening)) ++ a) ++ terminal.Close ∷ [])
 close_next opened.Group e f below outer inner opening a around spells p c = record {
   outer = outer;
@@ -73,7 +74,8 @@ close_next (opened.Call n args) e f below outer inner opening a around spells h 
 path_at : (x y : List Terminal) (e f : Expr) → IsPath x e → x ≡ y → e ≡ f → IsPath y f
 path_at x y e f d p q = subst (λ z. IsPath z f) p (subst (λ z. IsPath x z) q d)
 
-further_next : (o : Opened) (e : Expr) (f : Frame) (below : List Level) (outer inner opening a : List Terminal) → Around below outer → Spells f inner → Opening o opening → Completed o a e
+further_next : (o : Opened) (e : Expr) (f : Frame) (below : List Level) (outer inner opening a : List Terminal) → Around below outer → Spells f inner → Opening o opening
+    → Completed o a e
     → Next (further e o f below) (((outer ++ (inner ++ opening)) ++ a) ++ terminal.Comma ∷ [])
 further_next opened.Group e f below outer inner opening a around spells p c = tt
 further_next (opened.Call n args) e f below outer inner opening a around spells h c = (
@@ -85,7 +87,8 @@ further_next (opened.Call n args) e f below outer inner opening a around spells 
     opening ++ (a ++ terminal.Comma ∷ []),
     around,
     spells,
-    λ b more q. path_at _ _ _ _ (h (a ++ terminal.Comma ∷ b) (e ∷ more) (more_arguments c q)) (simp append_assoc) (ap (λ es. expr.Call n es) (sym (append_assoc args (e ∷ []) more))),
+    λ b more q. path_at _ _ _ _ (h (a ++ terminal.Comma ∷ b) (e ∷ more) (more_arguments c q)) (simp append_assoc)
+        (ap (λ es. expr.Call n es) (sym (append_assoc args (e ∷ []) more))),
     simp append_assoc,
   ),
 )
@@ -115,9 +118,15 @@ behind : (x outer inner part z : List Terminal) → x ≡ outer ++ (inner ++ par
 behind x outer inner part z p = rw p (simp append_assoc)
 
 end_next : (t : Terminal) (e : Expr) (f : Frame) (below : List Level) (x : List Terminal) → StandsAt (Inside (mode.Done e)) f below x → Next (at_end t e f below) (x ++ t ∷ [])
-end_next terminal.And e f below x s = wanting _ below _ s.outer (s.inner ++ (s.part ++ terminal.And ∷ [])) s.around (level_and f s.inner s.part e s.spells s.inside) (behind x s.outer s.inner s.part (terminal.And ∷ []) s.spelled)
-end_next terminal.Xor e f below x s = wanting _ below _ s.outer (s.inner ++ (s.part ++ terminal.Xor ∷ [])) s.around (level_xor f s.inner s.part e s.spells s.inside) (behind x s.outer s.inner s.part (terminal.Xor ∷ []) s.spelled)
-end_next terminal.Or e f below x s = wanting _ below _ s.outer (s.inner ++ (s.part ++ terminal.Or ∷ [])) s.around (level_or f s.inner s.part e s.spells s.inside) (behind x s.outer s.inner s.part (terminal.Or ∷ []) s.spelled)
+end_next terminal.And e f below x s =
+    wanting _ below _ s.outer (s.inner ++ (s.part ++ terminal.And ∷ [])) s.around (level_and f s.inner s.part e s.spells s.inside)
+    (behind x s.outer s.inner s.part (terminal.And ∷ []) s.spelled)
+end_next terminal.Xor e f below x s =
+    wanting _ below _ s.outer (s.inner ++ (s.part ++ terminal.Xor ∷ [])) s.around (level_xor f s.inner s.part e s.spells s.inside)
+    (behind x s.outer s.inner s.part (terminal.Xor ∷ []) s.spelled)
+end_next terminal.Or e f below x s =
+    wanting _ below _ s.outer (s.inner ++ (s.part ++ terminal.Or ∷ [])) s.around (level_or f s.inner s.part e s.spells s.inside)
+    (behind x s.outer s.inner s.part (terminal.Or ∷ []) s.spelled)
 end_next t e f below x s = whole_next t (chain_of f e) below x (record {
   outer = s.outer;
   a = s.inner ++ s.part;
@@ -134,7 +143,8 @@ begins_test e k t f below x h s = moved (λ y. IsOperand y e) (Inside (mode.Test
 as_unit : (e : Expr) (f : Frame) (below : List Level) (x : List Terminal) → StandsAt (λ y. IsOperand y e) f below x → StandsAt (Inside (mode.Done e)) f below x
 as_unit e f below x s = record { outer = s.outer; inner = s.inner; part = s.part; around = s.around; spells = s.spells; inside = untested s.inside; spelled = s.spelled }
 
-operand_next : (t : Terminal) (e : Expr) (f : Frame) (below : List Level) (x : List Terminal) → StandsAt (λ y. IsOperand y e) f below x → Next (at_operand t e f below) (x ++ t ∷ [])
+operand_next : (t : Terminal) (e : Expr) (f : Frame) (below : List Level) (x : List Terminal) → StandsAt (λ y. IsOperand y e) f below x
+    → Next (at_operand t e f below) (x ++ t ∷ [])
 operand_next (terminal.Order o) e f below x s = begins_test e (testing.Order o) (terminal.Order o) f below x refl s
 operand_next terminal.Contains e f below x s = begins_test e (testing.Text text.Contains) terminal.Contains f below x (λ t. contains) s
 operand_next terminal.Matches e f below x s = begins_test e (testing.Text text.Matches) terminal.Matches f below x (λ t. matches) s
@@ -156,23 +166,30 @@ as_path n f below x s = record { outer = s.outer; inner = s.inner; part = s.part
 call_opens : (n : List ℕ) (y : List Terminal) → y ≡ terminal.Name n ∷ [] → Opening (opened.Call n []) (y ++ terminal.Open ∷ [])
 call_opens n y p = rw p (λ a args d. call d)
 
-named_next : (t : Terminal) (n : List ℕ) (f : Frame) (below : List Level) (x : List Terminal) → StandsAt (Inside (mode.Named n)) f below x → Next (at_named t n f below) (x ++ t ∷ [])
+named_next : (t : Terminal) (n : List ℕ) (f : Frame) (below : List Level) (x : List Terminal) → StandsAt (Inside (mode.Named n)) f below x
+    → Next (at_named t n f below) (x ++ t ∷ [])
 named_next terminal.Open n f below x s =
     (refl, tt, (s.outer, s.inner, s.part ++ terminal.Open ∷ [], s.around, s.spells, call_opens n s.part s.inside, behind x s.outer s.inner s.part (terminal.Open ∷ []) s.spelled))
 named_next t n f below x s = path_next t (expr.Field n) f below x (as_path n f below x s)
 
 -- an index behind a path
-indexed : (y z : List Terminal) (t : Terminal) (e : Expr) → y ≡ z ++ terminal.OpenIndex ∷ [] → IsPath (z ++ terminal.OpenIndex ∷ t ∷ terminal.CloseIndex ∷ []) e → IsPath ((y ++ t ∷ []) ++ terminal.CloseIndex ∷ []) e
+indexed : (y z : List Terminal) (t : Terminal) (e : Expr) → y ≡ z ++ terminal.OpenIndex ∷ [] → IsPath (z ++ terminal.OpenIndex ∷ t ∷ terminal.CloseIndex ∷ []) e
+    → IsPath ((y ++ t ∷ []) ++ terminal.CloseIndex ∷ []) e
 indexed y z t e p d = rw p (subst (λ v. IsPath v e) (simp append_assoc) d)
 
 index_next : (t : Terminal) (e : Expr) (f : Frame) (below : List Level) (x : List Terminal) → StandsAt (Inside (mode.Index e)) f below x → Next (at_index t e f below) (x ++ t ∷ [])
-index_next (terminal.Number (pos n)) e f below x s = moved (Inside (mode.Index e)) (Inside (mode.IndexEnd (expr.At e (pos n)))) (terminal.Number (pos n) ∷ []) (λ y d. indexed y d.0 (terminal.Number (pos n)) _ d.2 (index d.1)) f below x s
+index_next (terminal.Number (pos n)) e f below x s =
+    moved (Inside (mode.Index e)) (Inside (mode.IndexEnd (expr.At e (pos n)))) (terminal.Number (pos n) ∷ [])
+    (λ y d. indexed y d.0 (terminal.Number (pos n)) _ d.2 (index d.1)) f below x s
 index_next (terminal.Number (negsuc n)) e f below x s = tt
-index_next (terminal.Text k) e f below x s = moved (Inside (mode.Index e)) (Inside (mode.IndexEnd (expr.Key e k))) (terminal.Text k ∷ []) (λ y d. indexed y d.0 (terminal.Text k) _ d.2 (key d.1)) f below x s
-index_next terminal.Star e f below x s = moved (Inside (mode.Index e)) (Inside (mode.IndexEnd (expr.Each e))) (terminal.Star ∷ []) (λ y d. indexed y d.0 terminal.Star _ d.2 (each d.1)) f below x s
+index_next (terminal.Text k) e f below x s =
+    moved (Inside (mode.Index e)) (Inside (mode.IndexEnd (expr.Key e k))) (terminal.Text k ∷ []) (λ y d. indexed y d.0 (terminal.Text k) _ d.2 (key d.1)) f below x s
+index_next terminal.Star e f below x s =
+    moved (Inside (mode.Index e)) (Inside (mode.IndexEnd (expr.Each e))) (terminal.Star ∷ []) (λ y d. indexed y d.0 terminal.Star _ d.2 (each d.1)) f below x s
 index_next t e f below x s = tt
 
-index_end_next : (t : Terminal) (e : Expr) (f : Frame) (below : List Level) (x : List Terminal) → StandsAt (Inside (mode.IndexEnd e)) f below x → Next (at_index_end t e f below) (x ++ t ∷ [])
+index_end_next : (t : Terminal) (e : Expr) (f : Frame) (below : List Level) (x : List Terminal) → StandsAt (Inside (mode.IndexEnd e)) f below x
+    → Next (at_index_end t e f below) (x ++ t ∷ [])
 index_end_next terminal.CloseIndex e f below x s = moved (Inside (mode.IndexEnd e)) (Inside (mode.Path e)) (terminal.CloseIndex ∷ []) (λ y d. d) f below x s
 index_end_next t e f below x s = tt
 
@@ -185,7 +202,8 @@ test_goes (tested.Whole u) e k t f below x h s = moved (Inside (mode.Testing e k
     (λ y d. rw (d.4, append_assoc) (tested d.2 (h d.1 d.3))) f below x s
 
 testing_goes : (o : Option Tested) (e : Expr) (k : Testing) (t : Terminal) (f : Frame) (below : List Level) (x : List Terminal)
-    → ((z : List Terminal) → TestFront k z → TestNext o (z ++ t ∷ [])) → StandsAt (Inside (mode.Testing e k)) f below x → Next (option_map (λ p. state (mode_of e p) f below) o) (x ++ t ∷ [])
+    → ((z : List Terminal) → TestFront k z → TestNext o (z ++ t ∷ [])) → StandsAt (Inside (mode.Testing e k)) f below x
+    → Next (option_map (λ p. state (mode_of e p) f below) o) (x ++ t ∷ [])
 testing_goes None e k t f below x h s = tt
 testing_goes (Some p) e k t f below x h s = test_goes p e k t f below x h s
 
@@ -199,8 +217,16 @@ want_next terminal.True f below x s = moved (Inside mode.Want) (Inside (mode.Tru
 want_next terminal.False f below x s = moved (Inside mode.Want) (Inside (mode.Truth false)) (terminal.False ∷ []) (λ y p. rw p false_word) f below x s
 want_next terminal.Not f below x s = wanting _ below _ s.outer (s.inner ++ terminal.Not ∷ []) s.around (level_not f s.inner s.spells)
     (behind x s.outer s.inner s.part (terminal.Not ∷ []) s.spelled ∙ ap (λ v. s.outer ++ (s.inner ++ (v ++ terminal.Not ∷ []))) s.inside)
-want_next terminal.Open f below x s = wanting fresh (level opened.Group f ∷ below) _ (x ++ terminal.Open ∷ []) []
-    (s.outer, s.inner, terminal.Open ∷ [], s.around, s.spells, refl, behind x s.outer s.inner s.part (terminal.Open ∷ []) s.spelled ∙ ap (λ v. s.outer ++ (s.inner ++ (v ++ terminal.Open ∷ []))) s.inside)
+want_next terminal.Open f below x s = wanting fresh (level opened.Group f ∷ below) _ (x ++ terminal.Open ∷ []) [] (
+  s.outer,
+  s.inner,
+  terminal.Open ∷ [],
+  s.around,
+  s.spells,
+  refl,
+  behind x s.outer s.inner s.part (terminal.Open ∷ []) s.spelled
+      ∙ ap (λ v. s.outer ++ (s.inner ++ (v ++ terminal.Open ∷ []))) s.inside,
+)
     fresh_spells (sym (append-nil (x ++ terminal.Open ∷ [])))
 want_next t f below x s = tt
 
@@ -258,7 +284,8 @@ ended_derives (mode.Done u) f [] x e s q = ended_as x _ e (unit_ends u f x s) q
 ended_derives (mode.Done u) f (o ∷ below) x e s q = absurd cc
 
 -- what is read behind the terminals that a state stands for
-reads_on : (ts x : List Terminal) (e : Expr) (o : Option State) → Next o x → ((s : State) → StandsFor s x → outcome ts s ≡ Some e → Derives (x ++ ts) e) → option_and_then (λ next. outcome ts next) o ≡ Some e → Derives (x ++ ts) e
+reads_on : (ts x : List Terminal) (e : Expr) (o : Option State) → Next o x → ((s : State) → StandsFor s x → outcome ts s ≡ Some e → Derives (x ++ ts) e)
+    → option_and_then (λ next. outcome ts next) o ≡ Some e → Derives (x ++ ts) e
 reads_on ts x e None h k q = absurd cc
 reads_on ts x e (Some s) h k q = k s h q
 

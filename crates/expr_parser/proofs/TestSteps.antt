@@ -24,7 +24,8 @@ TestNext (Some p) z = TestedBy p z
 -- one more item behind items
 items_more : {w : List Terminal} {items : List Item} → IsItems w items → ItemFront items w
 items_more (one_item d) a i q = more_items d (one_item q)
-items_more (more_items {ts} {rest} {i = first} {is = items} d ds) a i q = subst (λ z. IsItems z (first ∷ (items ++ i ∷ []))) (sym (append_assoc ts rest a)) (more_items d (items_more ds a i q))
+items_more (more_items {ts} {rest} {i = first} {is = items} d ds) a i q =
+    subst (λ z. IsItems z (first ∷ (items ++ i ∷ []))) (sym (append_assoc ts rest a)) (more_items d (items_more ds a i q))
 
 order_next : (t : Terminal) (o : Order) (z : List Terminal) → z ≡ terminal.Order o ∷ [] → TestNext (at_order t o) (z ++ t ∷ [])
 order_next (terminal.Text x) o z p = rw p (in_order text_literal)
@@ -56,15 +57,20 @@ items_next : (t : Terminal) (items : List Item) (w z : List Terminal) → IsItem
 items_next terminal.CloseItems items w z d p = rw p (in_items d)
 items_next t items w z d p = item_next t items w z (items_more d) p
 
-number_next : (t : Terminal) (items : List Item) (n : ℤ) (w z : List Terminal) → ItemFront items w → z ≡ terminal.In ∷ terminal.OpenItems ∷ (w ++ terminal.Number n ∷ []) → TestNext (at_number t items n) (z ++ t ∷ [])
-number_next terminal.To items n w z h p = (w, h, ap (λ v. v ++ terminal.To ∷ []) p ∙ ap (λ v. terminal.In ∷ terminal.OpenItems ∷ v) (append_assoc w (terminal.Number n ∷ []) (terminal.To ∷ [])))
+number_next : (t : Terminal) (items : List Item) (n : ℤ) (w z : List Terminal) → ItemFront items w → z ≡ terminal.In ∷ terminal.OpenItems ∷ (w ++ terminal.Number n ∷ [])
+    → TestNext (at_number t items n) (z ++ t ∷ [])
+number_next terminal.To items n w z h p =
+    (w, h, ap (λ v. v ++ terminal.To ∷ []) p ∙ ap (λ v. terminal.In ∷ terminal.OpenItems ∷ v) (append_assoc w (terminal.Number n ∷ []) (terminal.To ∷ [])))
 number_next t items n w z h p = items_next t (items ++ item.One (lit.Num n) ∷ []) (w ++ terminal.Number n ∷ []) z (h _ _ (literal_item number_literal)) p
 
-address_next : (t : Terminal) (items : List Item) (a : Addr) (w z : List Terminal) → ItemFront items w → z ≡ terminal.In ∷ terminal.OpenItems ∷ (w ++ terminal.Address a ∷ []) → TestNext (at_address t items a) (z ++ t ∷ [])
-address_next terminal.To items a w z h p = (w, h, ap (λ v. v ++ terminal.To ∷ []) p ∙ ap (λ v. terminal.In ∷ terminal.OpenItems ∷ v) (append_assoc w (terminal.Address a ∷ []) (terminal.To ∷ [])))
+address_next : (t : Terminal) (items : List Item) (a : Addr) (w z : List Terminal) → ItemFront items w → z ≡ terminal.In ∷ terminal.OpenItems ∷ (w ++ terminal.Address a ∷ [])
+    → TestNext (at_address t items a) (z ++ t ∷ [])
+address_next terminal.To items a w z h p =
+    (w, h, ap (λ v. v ++ terminal.To ∷ []) p ∙ ap (λ v. terminal.In ∷ terminal.OpenItems ∷ v) (append_assoc w (terminal.Address a ∷ []) (terminal.To ∷ [])))
 address_next t items a w z h p = items_next t (items ++ item.One (lit.Addr a) ∷ []) (w ++ terminal.Address a ∷ []) z (h _ _ (literal_item address_literal)) p
 
-number_to_next : (t : Terminal) (items : List Item) (n : ℤ) (w z : List Terminal) → ItemFront items w → z ≡ terminal.In ∷ terminal.OpenItems ∷ (w ++ terminal.Number n ∷ terminal.To ∷ []) → TestNext (at_number_to t items n) (z ++ t ∷ [])
+number_to_next : (t : Terminal) (items : List Item) (n : ℤ) (w z : List Terminal) → ItemFront items w
+    → z ≡ terminal.In ∷ terminal.OpenItems ∷ (w ++ terminal.Number n ∷ terminal.To ∷ []) → TestNext (at_number_to t items n) (z ++ t ∷ [])
 number_to_next (terminal.Number m) items n w z h p = (
   w ++ terminal.Number n ∷ terminal.To ∷ terminal.Number m ∷ [],
   h _ _ numbers_item,
@@ -72,7 +78,8 @@ number_to_next (terminal.Number m) items n w z h p = (
 )
 number_to_next t items n w z h p = tt
 
-address_to_next : (t : Terminal) (items : List Item) (a : Addr) (w z : List Terminal) → ItemFront items w → z ≡ terminal.In ∷ terminal.OpenItems ∷ (w ++ terminal.Address a ∷ terminal.To ∷ []) → TestNext (at_address_to t items a) (z ++ t ∷ [])
+address_to_next : (t : Terminal) (items : List Item) (a : Addr) (w z : List Terminal) → ItemFront items w
+    → z ≡ terminal.In ∷ terminal.OpenItems ∷ (w ++ terminal.Address a ∷ terminal.To ∷ []) → TestNext (at_address_to t items a) (z ++ t ∷ [])
 address_to_next (terminal.Address b) items a w z h p = (
   w ++ terminal.Address a ∷ terminal.To ∷ terminal.Address b ∷ [],
   h _ _ addresses_item,

@@ -1,11 +1,10 @@
 -- A text in quotes stands for its terminal before any rest.
-use Rattle.std.proofs.Common.{◌≡◌, ℕ, ◌==◌, ◌||◌, true, false, List, [], ◌∷◌, ◌++◌, Some, None, is_some, option_map, inl, inr, refl, sym, ◌∙◌, ap}
+use Rattle.std.proofs.Common.{◌≡◌, ℕ, ◌==◌, ◌||◌, true, false, List, [], ◌∷◌, ◌++◌, take, Some, None, is_some, option_map, inl, inr, refl, sym, ◌∙◌, ap}
 use Rattle.std.proofs.lemmas.Bool.{cases_Bool, or_parts}
 use Rattle.edge_base.specs.declared.terminal.Terminal.TheVariants as terminal
 use Rattle.edge_base.specs.declared.token.TokenKind.{TokenKind}
 use Rattle.edge_base.specs.declared.token.TokenKind.TheVariants as kind
 use Rattle.edge_base.specs.Token.{quoted_of, text_of, IsTokenOf}
-use Rattle.edge_base.specs.Cut.{may_stand_before}
 use Rattle.expr_lexer.specs.declared.scanner.State.{State}
 use Rattle.expr_lexer.specs.declared.scanner.State.TheVariants as state
 use Rattle.expr_lexer.specs.Scan.{next_of, kind_in, kind_from}
@@ -13,7 +12,7 @@ use Rattle.expr_lexer.specs.Fronts.{is_scanned}
 use Rattle.expr_lexer.proofs.LongestLemmas.{shape_of, token_is_read}
 use Rattle.expr_parser.specs.Spelling.{escaped_text, quoted}
 use Rattle.expr_parser.proofs.BlockBytes.{unscanned_begins}
-use Rattle.expr_parser.proofs.LongestWhere.{EndsThere, longest_where, read_no_further}
+use Rattle.expr_parser.proofs.LongestWhere.{EndsThere, longest_where, may_stand_anywhere, read_no_further}
 use Rattle.expr_parser.proofs.Written.{StandsFor}
 
 -- ---- what is between the quotes
@@ -25,7 +24,7 @@ escaped_reads (byte ∷ text) = elim (cases_Bool (byte == 34 || byte == 92)) [
   | inr other ↦ let both = or_parts (byte == 34) (byte == 92) other in rw (other, both.0, both.1) (ap (option_map (λ (bytes : List ℕ). byte ∷ bytes)) (escaped_reads text))
 ]
 
-pub quoted_reads : (text : List ℕ) → text_of (quoted text) ≡ Some text
+quoted_reads : (text : List ℕ) → text_of (quoted text) ≡ Some text
 quoted_reads text = escaped_reads text
 
 -- ---- nothing goes on past the closing quote
@@ -59,15 +58,12 @@ none_past_text text byte more other longer = elim (cases_Bool (is_scanned other)
 ]
 
 text_ends : (text rest : List ℕ) → EndsThere (quoted text) rest
-text_ends text rest = λ byte behind more other is longer. none_past_text text byte more other longer
-
-text_may_stand : (rest : List ℕ) → may_stand_before kind.Text rest ≡ true
-text_may_stand [] = refl
-text_may_stand (byte ∷ rest) = refl
+text_ends text [] = tt
+text_ends text (byte ∷ behind) = λ size other longer. none_past_text text byte (take size behind) other longer
 
 pub text_stands : (text rest : List ℕ) → StandsFor kind.Text (quoted text) rest (terminal.Text text)
 text_stands text rest = record {
   longest = longest_where kind.Text (quoted text) rest (ap is_some (quoted_reads text)) (text_ends text rest);
-  neighbour = text_may_stand rest;
+  neighbour = may_stand_anywhere kind.Text rest refl;
   is_terminal = ap (option_map terminal.Text) (quoted_reads text);
 }

@@ -40,7 +40,7 @@ test_terminals (test.Among items) = terminal.In ∷ terminal.OpenItems ∷ items
 test_terminals (test.Listed name) = terminal.In ∷ terminal.ListName name ∷ []
 
 -- by how tight the place binds, as in the spelling
-abbrev pub TerminalsAt : Type 0
+abbrev TerminalsAt : Type 0
 TerminalsAt = ℕ → List Terminal
 
 abbrev pub joined_terminals : Terminal → ℕ → List TerminalsAt → List Terminal
@@ -51,7 +51,7 @@ joined_terminals joint tightness (s ∷ t ∷ rest) = s tightness ++ joint ∷ j
 abbrev pub grouped : Bool → List Terminal → List Terminal
 grouped needed ts = cond needed (terminal.Open ∷ ts ++ terminal.Close ∷ []) ts
 
-abbrev pub terminals_step : open_expr.Expr-F TerminalsAt → TerminalsAt
+abbrev terminals_step : open_expr.Expr-F TerminalsAt → TerminalsAt
 terminals_step (open_expr.Lit l) n = lit_terminal l ∷ []
 terminals_step (open_expr.Field name) n = terminal.Name name ∷ []
 terminals_step (open_expr.Call name args) n = terminal.Name name ∷ terminal.Open ∷ joined_terminals terminal.Comma 0 args ++ terminal.Close ∷ []
@@ -73,8 +73,10 @@ terminals_lit l n = ap (λ (f : TerminalsAt). f n) (ap terminals_at (sym (expr.r
 pub terminals_field : (name : List ℕ) (n : ℕ) → terminals_at (expr.Field name) n ≡ terminal.Name name ∷ []
 terminals_field name n = ap (λ (f : TerminalsAt). f n) (ap terminals_at (sym (expr.rolls-Field name)) ∙ folds.fold-roll-Expr TerminalsAt terminals_step (open_expr.Field name))
 
-pub terminals_call : (name : List ℕ) (args : List Expr) (n : ℕ) → terminals_at (expr.Call name args) n ≡ terminal.Name name ∷ terminal.Open ∷ joined_terminals terminal.Comma 0 (map terminals_at args) ++ terminal.Close ∷ []
-terminals_call name args n = ap (λ (f : TerminalsAt). f n) (ap terminals_at (sym (expr.rolls-Call name args)) ∙ folds.fold-roll-Expr TerminalsAt terminals_step (open_expr.Call name args))
+pub terminals_call : (name : List ℕ) (args : List Expr) (n : ℕ)
+    → terminals_at (expr.Call name args) n ≡ terminal.Name name ∷ terminal.Open ∷ joined_terminals terminal.Comma 0 (map terminals_at args) ++ terminal.Close ∷ []
+terminals_call name args n =
+    ap (λ (f : TerminalsAt). f n) (ap terminals_at (sym (expr.rolls-Call name args)) ∙ folds.fold-roll-Expr TerminalsAt terminals_step (open_expr.Call name args))
 
 pub terminals_index : (e : Expr) (at : ℤ) (n : ℕ) → terminals_at (expr.At e at) n ≡ terminals_at e 3 ++ terminal.OpenIndex ∷ terminal.Number at ∷ terminal.CloseIndex ∷ []
 terminals_index e at n = ap (λ (f : TerminalsAt). f n) (ap terminals_at (sym (expr.rolls-At e at)) ∙ folds.fold-roll-Expr TerminalsAt terminals_step (open_expr.At e at))

@@ -11,7 +11,8 @@ push_joined-loop-at-preserved t c =
     let joint = c.args.joint.now in
     let mid : c.if-at-gt0.out ≡ c.loop-at.out ++ joint_behind joint (map spelling_at (take at members)) =
     elim c.if-at-gt0.branch [
-      | push_joined-then-at-gt0+in_ok-push w ↦ w.out-is ∙ w.in_ok-push.ensures.ok ∙ ap (λ v. c.loop-at.out ++ v) (sym (behind_some joint members at w.if-at-gt0.true c.loop-at-test.true))
+      | push_joined-then-at-gt0+in_ok-push w ↦ w.out-is ∙ w.in_ok-push.ensures.ok
+          ∙ ap (λ v. c.loop-at.out ++ v) (sym (behind_some joint members at w.if-at-gt0.true c.loop-at-test.true))
       | push_joined-else-at-gt0 w ↦ w.out-is ∙ sym (append-nil c.loop-at.out) ∙ ap (λ v. c.loop-at.out ++ v) (sym (behind_none joint members at w.if-at-gt0.false))
     ] in
     joined-take_more joint c.args.tightness members at c.index-members-at.result _ _ _ _ c.loop-at-test.true c.index-members-at.is c.loop-at.invariant mid c.in_ok-push_expr.ensures

@@ -1,14 +1,10 @@
-use Rattle.std.proofs.Common.{◌≡◌, ◌∙◌, sym, ap, subst, List, [], ◌∷◌, length, refl, arith}
+use Rattle.std.proofs.Common.{◌≡◌, ◌∙◌, sym, ap, subst, [], ◌∷◌, length, arith}
+use Rattle.std.proofs.lemmas.List.{nil_from_length}
 use Rattle.std.specs.Vec.Iter.{into_iter_items}
 use Rattle.edge_base.specs.declared.expression.Expr.{Expr}
-use Rattle.edge_base.specs.declared.terminal.Terminal.{Terminal}
 use Rattle.edge_base.specs.Grammar.{Derives, IsFault}
 use Rattle.expr_parser.proofs.Bare.{bare_goes_on, bare_refused, bare_cut_short, bare_ended_well}
 use Rattle.expr_parser.proofs.reading.fault_of.Goals as goal
-
-nothing_left : (ts : List Terminal) → length ts ≡ 0 → ts ≡ []
-nothing_left [] h = refl
-nothing_left (t ∷ ts) h = absurd (omega arith)
 
 pub loop-terminal-preserved : goal.loop-terminal-preserved
 loop-terminal-preserved c =
@@ -35,7 +31,7 @@ returns-then-is_tree c =
     let loop = c.loop-terminal in
     let all = c.into_iter-terminal-iterator.ensures.into_iter_gives.0 in
     let none = c.in-None.ensures.steps in
-    let empty : into_iter_items loop.terminal-iterator ≡ [] = nothing_left _ (sym loop.invariant.left ∙ none.0) in
+    let empty : into_iter_items loop.terminal-iterator ≡ [] = nil_from_length _ (sym loop.invariant.left ∙ none.0) in
     let going = rw empty at loop.invariant.going in
     let ended = bare_ended_well _ loop.at loop.state going (rw c.in_ok-ended.ensures at (sym c.is_tree.ensures ∙ c.if-is_tree.true)) in
     subst (λ ts. (e : Expr) × Derives ts e) all ended
@@ -45,6 +41,6 @@ returns c =
     let loop = c.loop-terminal in
     let all = c.into_iter-terminal-iterator.ensures.into_iter_gives.0 in
     let none = c.in-None.ensures.steps in
-    let empty : into_iter_items loop.terminal-iterator ≡ [] = nothing_left _ (sym loop.invariant.left ∙ none.0) in
+    let empty : into_iter_items loop.terminal-iterator ≡ [] = nil_from_length _ (sym loop.invariant.left ∙ none.0) in
     let going = rw empty at loop.invariant.going in
     subst (λ ts. IsFault ts loop.at) all (bare_cut_short _ loop.at loop.state going (rw c.in_ok-ended.ensures at (sym c.is_tree.ensures ∙ c.if-is_tree.false)))

@@ -1,13 +1,9 @@
-use Rattle.std.proofs.Common.{◌≡◌, ◌∙◌, sym, subst, List, [], ◌∷◌, length, refl, arith}
+use Rattle.std.proofs.Common.{◌≡◌, ◌∙◌, sym, subst, [], ◌∷◌}
+use Rattle.std.proofs.lemmas.List.{nil_from_length}
 use Rattle.std.specs.Vec.Iter.{into_iter_items}
 use Rattle.edge_base.specs.Grammar.{Derives, IsFault}
-use Rattle.edge_base.specs.declared.terminal.Terminal.{Terminal}
 use Rattle.expr_parser.proofs.Places.{refused_here, cut_short, ended_well}
 use Rattle.expr_parser.proofs.reading.read.Goals as goal
-
-nothing_left : (ts : List Terminal) → length ts ≡ 0 → ts ≡ []
-nothing_left [] h = refl
-nothing_left (t ∷ ts) h = absurd (omega arith)
 
 -- a terminal is refused
 pub returns-in_default : goal.returns-in_default
@@ -24,7 +20,7 @@ returns-in-Some-3 c =
     let loop = c.loop-terminal in
     let all = c.into_iter-terminal-iterator.ensures.into_iter_gives.0 in
     let none = c.in-None.ensures.steps in
-    let empty : into_iter_items loop.terminal-iterator ≡ [] = nothing_left _ (sym loop.invariant.left ∙ none.0) in
+    let empty : into_iter_items loop.terminal-iterator ≡ [] = nil_from_length _ (sym loop.invariant.left ∙ none.0) in
     let going = rw empty at loop.invariant.going in
     subst (λ ts. Derives ts c.in-Some-3.tree) all (ended_well _ loop.at loop.state _ going (sym c.in_ok-tree.ensures ∙ c.in-Some-3.is))
 
@@ -33,6 +29,6 @@ returns-in-None-2 c =
     let loop = c.loop-terminal in
     let all = c.into_iter-terminal-iterator.ensures.into_iter_gives.0 in
     let none = c.in-None.ensures.steps in
-    let empty : into_iter_items loop.terminal-iterator ≡ [] = nothing_left _ (sym loop.invariant.left ∙ none.0) in
+    let empty : into_iter_items loop.terminal-iterator ≡ [] = nil_from_length _ (sym loop.invariant.left ∙ none.0) in
     let going = rw empty at loop.invariant.going in
     subst (λ ts. IsFault ts loop.at) all (cut_short _ loop.at loop.state going (sym c.in_ok-tree.ensures ∙ c.in-None-2.is))

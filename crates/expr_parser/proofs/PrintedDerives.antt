@@ -2,55 +2,31 @@
 use Rattle.std.proofs.Common.{◌≡◌, ℕ, pos, true, false, List, [], ◌∷◌, ◌++◌, map, refl, sym, subst}
 use Rattle.edge_base.specs.declared.expression.Lit.{Lit}
 use Rattle.edge_base.specs.declared.expression.Lit.TheVariants as lit
-use Rattle.edge_base.specs.declared.expression.Item.{Item}
 use Rattle.edge_base.specs.declared.expression.Test.{Test}
 use Rattle.edge_base.specs.declared.expression.Expr.{Expr}
 use Rattle.edge_base.specs.declared.expression.Expr.TheVariants as expr
 use Rattle.edge_base.specs.declared.terminal.Terminal.{Terminal}
 use Rattle.edge_base.specs.declared.terminal.Terminal.TheVariants as terminal
-use Rattle.edge_base.specs.Grammar.{together, IsLiteral, text_literal, number_literal, address_literal, IsItem, literal_item, block_item, numbers_item, addresses_item, IsItems, one_item, more_items, IsTest, in_order, contains, matches, wildcard, strict_wildcard, in_list, in_items, IsExpression, literal, chain, IsChain, one_xor, more_xors, IsXor, one_and, more_ands, IsAnd, one_unit, more_units, IsUnit, negated, group, untested, tested, IsOperand, true_word, false_word, path, IsPath, name, call, index, key, each, IsArguments, one_argument, more_arguments, Derives}
-use Rattle.expr_parser.proofs.TreeTerminals.{lit_terminal, item_terminals, items_terminals, test_terminals, joined_terminals, terminals_at, terminals_lit, terminals_field, terminals_call, terminals_index, terminals_key, terminals_each, terminals_test, terminals_not, terminals_and, terminals_xor, terminals_or}
+use Rattle.edge_base.specs.Grammar.{together, IsLiteral, IsTest, IsExpression, literal, chain, IsChain, one_xor, more_xors, IsXor, one_and, more_ands, IsAnd, one_unit, more_units, IsUnit, negated, group, untested, tested, IsOperand, true_word, false_word, path, IsPath, name, call, index, key, each, IsArguments, one_argument, more_arguments, Derives}
+use Rattle.expr_parser.proofs.PlainTests.{literal_prints, test_prints}
+use Rattle.expr_parser.proofs.TreeTerminals.{lit_terminal, test_terminals, joined_terminals, terminals_at, terminals_lit, terminals_field, terminals_call, terminals_index, terminals_key, terminals_each, terminals_test, terminals_not, terminals_and, terminals_xor, terminals_or}
 
--- a literal, an item and a test
+-- a literal and a test
 printed_literal : {t : Terminal} {l : Lit} → IsLiteral t l → IsLiteral (lit_terminal l) l
-printed_literal text_literal = text_literal
-printed_literal number_literal = number_literal
-printed_literal address_literal = address_literal
+printed_literal {l} d = subst (λ t. IsLiteral t l) (sym (literal_prints d)) d
 
-printed_item : {ts : List Terminal} {i : Item} → IsItem ts i → IsItem (item_terminals i) i
-printed_item (literal_item d) = literal_item (printed_literal d)
-printed_item block_item = block_item
-printed_item numbers_item = numbers_item
-printed_item addresses_item = addresses_item
-
-single_items : {ts : List Terminal} {i : Item} → IsItem ts i → IsItems (ts ++ []) (i ∷ [])
-single_items (literal_item d) = one_item (literal_item d)
-single_items block_item = one_item block_item
-single_items numbers_item = one_item numbers_item
-single_items addresses_item = one_item addresses_item
-
-printed_items : {ts : List Terminal} {is : List Item} → IsItems ts is → IsItems (items_terminals is) is
-printed_items (one_item d) = single_items (printed_item d)
-printed_items (more_items d ds) = more_items (printed_item d) (printed_items ds)
-
-pub printed_test : {ts : List Terminal} {t : Test} → IsTest ts t → IsTest (test_terminals t) t
-printed_test (in_order d) = in_order (printed_literal d)
-printed_test contains = contains
-printed_test matches = matches
-printed_test wildcard = wildcard
-printed_test strict_wildcard = strict_wildcard
-printed_test in_list = in_list
-printed_test (in_items ds) = in_items (printed_items ds)
+printed_test : {ts : List Terminal} {t : Test} → IsTest ts t → IsTest (test_terminals t) t
+printed_test {t} d = subst (λ ts. IsTest ts t) (sym (test_prints d)) d
 
 -- the tree is derived at each place
-pub record Good (e : Expr) : Type 0 where
-  pub unit : IsUnit (terminals_at e 3) e
-  pub ands : (us : List Expr) × IsAnd (terminals_at e 2) us × (together expr.And us ≡ e)
-  pub xors : (us : List Expr) × IsXor (terminals_at e 1) us × (together expr.Xor us ≡ e)
-  pub chain : (us : List Expr) × IsChain (terminals_at e 0) us × (together expr.Or us ≡ e)
+record Good (e : Expr) : Type 0 where
+  unit : IsUnit (terminals_at e 3) e
+  ands : (us : List Expr) × IsAnd (terminals_at e 2) us × (together expr.And us ≡ e)
+  xors : (us : List Expr) × IsXor (terminals_at e 1) us × (together expr.Xor us ≡ e)
+  chain : (us : List Expr) × IsChain (terminals_at e 0) us × (together expr.Or us ≡ e)
 
 -- one or more trees, each derived at each place
-pub data AllGood : List Expr → Type 0 where
+data AllGood : List Expr → Type 0 where
   one_good : {e : Expr} → Good e → AllGood (e ∷ [])
   more_good : {e : Expr} {es : List Expr} → Good e → AllGood es → AllGood (e ∷ es)
 

@@ -10,7 +10,7 @@ use Rattle.edge_base.specs.Nesting.{nesting}
 use Rattle.expr_parser.proofs.TreeTerminals.{terminals_at, terminals_lit, terminals_field, terminals_index, terminals_key, terminals_each, terminals_test}
 use Rattle.expr_parser.proofs.Rises.{ChainRises, end_closes}
 use Rattle.expr_parser.proofs.PlainTests.{test_prints, plain_one, plain_three, test_rises}
-use Rattle.expr_parser.proofs.PrintedParts.{OperandFits, UnitFits, and_node, xor_node, or_node, MemberFits, ListFits, ArgumentsFit, fits_member, unit_member, one_member, more_members, negated_fits, group_fits, operand_unit, followed_fits, plain_fits, literal_fits, call_fits, one_fits, more_fit}
+use Rattle.expr_parser.proofs.PartsNest.{OperandFits, UnitFits, and_node, xor_node, or_node, MemberFits, ListFits, ArgumentsFit, fits_member, unit_member, one_member, more_members, negated_fits, group_fits, operand_unit, followed_fits, plain_fits, literal_fits, call_fits, one_fits, more_fit}
 
 mutual
   expression_fits : {ts : List Terminal} {e : Expr} → IsExpression ts e → MemberFits 0 ts e

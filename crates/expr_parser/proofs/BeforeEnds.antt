@@ -1,6 +1,6 @@
 -- A token that an end byte follows is the longest one at its place.
-use Rattle.std.proofs.Common.{◌≡◌, ℕ, ◌+◌, ◌-◌, ◌*◌, ◌^◌, Bool, true, false, cond, not, ◌&&◌, nat_le, ◌==◌, List, [], ◌∷◌, ◌++◌, length, Option, Some, None, inl, inr, refl, sym, ◌∙◌, ap, subst, arith, eqb-true}
-use Rattle.std.proofs.lemmas.Bool.{cases_Bool, and_parts, or_cases, both_ways}
+use Rattle.std.proofs.Common.{◌≡◌, ℕ, ◌+◌, ◌-◌, ◌*◌, ◌^◌, Bool, true, false, cond, not, ◌&&◌, nat_le, ◌==◌, List, [], ◌∷◌, ◌++◌, length, take, Option, Some, None, inl, inr, refl, sym, ◌∙◌, ap, subst, arith, eqb-true}
+use Rattle.std.proofs.lemmas.Bool.{cases_Bool, and_parts, both_ways}
 use Rattle.std.proofs.lemmas.Bool.Decides.{nat_tests}
 use Rattle.std.proofs.lemmas.List.Folds.{list_all-append}
 use Rattle.std.specs.List.{list_all}
@@ -13,40 +13,20 @@ use Rattle.expr_lexer.specs.declared.scanner.State.{State}
 use Rattle.expr_lexer.specs.declared.scanner.State.TheVariants as state
 use Rattle.expr_lexer.specs.Scan.{next_of, kind_in, kind_from, with_next, first_of, leading_digit_of, digit_of, is_lone, is_comparison, is_doubled}
 use Rattle.expr_lexer.specs.Fronts.{is_scanned}
+use Rattle.expr_lexer.proofs.ByteLemmas.{case_at, begins_with}
 use Rattle.expr_lexer.proofs.LongestLemmas.{shape_of, token_is_read}
-use Rattle.expr_parser.proofs.BlockBytes.{is_block_byte, is_first_byte, BeginsAsAddress, unscanned_bytes, unscanned_begins}
+use Rattle.expr_parser.proofs.BlockBytes.{is_block_byte, is_first_byte, unscanned_bytes, unscanned_begins}
 use Rattle.expr_parser.proofs.LongestWhere.{EndsThere, longest_where, read_no_further}
 use Rattle.expr_parser.proofs.Written.{is_end_byte, ends_before, StandsFor}
 
 blank_cases : (P : ℕ → Type 0) (byte : ℕ) → is_blank byte ≡ true → P 32 → P 9 → P 13 → P 10 → P byte
-blank_cases P byte h p32 p9 p13 p10 = elim (or_cases _ (byte == 10) h) [
-  | inl h2 ↦ elim (or_cases _ (byte == 13) h2) [
-    | inl h1 ↦ elim (or_cases _ (byte == 9) h1) [
-      | inl h0 ↦ subst P (sym (eqb-true byte 32 h0)) p32
-      | inr here ↦ subst P (sym (eqb-true byte 9 here)) p9
-    ]
-    | inr here ↦ subst P (sym (eqb-true byte 13 here)) p13
-  ]
-  | inr here ↦ subst P (sym (eqb-true byte 10 here)) p10
-]
+blank_cases P byte h p32 p9 p13 p10 =
+    case_at P byte 10 _ h (λ h. case_at P byte 13 _ h (λ h. case_at P byte 9 _ h (λ h. subst P (sym (eqb-true byte 32 h)) p32) p9) p13) p10
 
 end_cases : (P : ℕ → Type 0) (byte : ℕ) → is_end_byte byte ≡ true → P 32 → P 9 → P 13 → P 10 → P 40 → P 41 → P 44 → P 91 → P 93 → P byte
-end_cases P byte h p32 p9 p13 p10 p40 p41 p44 p91 p93 = elim (or_cases _ (byte == 93) h) [
-  | inl h4 ↦ elim (or_cases _ (byte == 91) h4) [
-    | inl h3 ↦ elim (or_cases _ (byte == 44) h3) [
-      | inl h2 ↦ elim (or_cases _ (byte == 41) h2) [
-        | inl h1 ↦ elim (or_cases _ (byte == 40) h1) [
-          | inl h0 ↦ blank_cases P byte h0 p32 p9 p13 p10
-          | inr here ↦ subst P (sym (eqb-true byte 40 here)) p40
-        ]
-        | inr here ↦ subst P (sym (eqb-true byte 41 here)) p41
-      ]
-      | inr here ↦ subst P (sym (eqb-true byte 44 here)) p44
-    ]
-    | inr here ↦ subst P (sym (eqb-true byte 91 here)) p91
-  ]
-  | inr here ↦ subst P (sym (eqb-true byte 93 here)) p93
-]
+end_cases P byte h p32 p9 p13 p10 p40 p41 p44 p91 p93 =
+    case_at P byte 93 _ h (λ h. case_at P byte 91 _ h (λ h. case_at P byte 44 _ h (λ h. case_at P byte 41 _ h (λ h. case_at P byte 40 _ h
+    (λ h. blank_cases P byte h p32 p9 p13 p10) p40) p41) p44) p91) p93
 
 -- ---- what is read from a state at which a token ends
 
@@ -172,8 +152,9 @@ first_leads byte h = let no : IsNoFirst byte = no_first byte h in
     (either_way (is_name_start byte) _ _ refl (either_way (is_digit byte) (leading_digit_of (2 ^ 63 - 1) byte) None
     (either_way (byte == 48) _ _ refl (either_way (byte == 48) None _ refl (digit_leads (2 ^ 63 - 1) 0 byte))) refl))
 
-address_reads_none : (text : List ℕ) (byte : ℕ) (more : List ℕ) → BeginsAsAddress text → is_end_byte byte ≡ true → kind_from state.Start (text ++ byte ∷ more) ≡ None
-address_reads_none [] byte more begins ends = absurd begins
+address_reads_none : (text : List ℕ) (byte : ℕ) (more : List ℕ) → begins_with is_first_byte text ≡ true → is_end_byte byte ≡ true
+    → kind_from state.Start (text ++ byte ∷ more) ≡ None
+address_reads_none [] byte more begins ends = absurd (cc)
 address_reads_none (first ∷ text) byte more begins ends =
     none_behind (first_of first) (text ++ byte ∷ more) (first_leads first begins) (λ next. bare_reads_none byte more ends next text)
 
@@ -198,17 +179,17 @@ none_past k other text byte more token ends longer = elim (cases_Bool (is_scanne
 ]
 
 ends_there : (k : TokenKind) (text rest : List ℕ) → IsTokenOf k text → ends_before rest ≡ true → EndsThere text rest
-ends_there k text rest token ends = λ byte behind more other is longer.
-    none_past k other text byte more token (sym (ap ends_before is) ∙ ends) longer
+ends_there k text [] token ends = tt
+ends_there k text (byte ∷ behind) token ends = λ size other longer. none_past k other text byte (take size behind) token ends longer
 
-pub longest_before_end : (k : TokenKind) (text rest : List ℕ) → IsTokenOf k text → ends_before rest ≡ true → IsLongest (text ++ rest) (length text) k
+longest_before_end : (k : TokenKind) (text rest : List ℕ) → IsTokenOf k text → ends_before rest ≡ true → IsLongest (text ++ rest) (length text) k
 longest_before_end k text rest token ends = longest_where k text rest token (ends_there k text rest token ends)
 
 apart : (one other : Bool) → other ≡ false → not (one && other) ≡ true
 apart true other h = rw h refl
 apart false other h = refl
 
-pub may_stand_before_end : (k : TokenKind) (rest : List ℕ) → ends_before rest ≡ true → may_stand_before k rest ≡ true
+may_stand_before_end : (k : TokenKind) (rest : List ℕ) → ends_before rest ≡ true → may_stand_before k rest ≡ true
 may_stand_before_end k [] ends = refl
 may_stand_before_end k (byte ∷ rest) ends =
     apart (stands_apart k) (is_word_byte byte) (end_cases (λ (b : ℕ). is_word_byte b ≡ false) byte ends refl refl refl refl refl refl refl refl refl)
