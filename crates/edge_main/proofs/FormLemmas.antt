@@ -152,8 +152,7 @@ none_past_word more other longer = elim (cases_Bool (is_scanned other)) [
 ]
 
 word_ends : (rest : List ℕ) → EndsThere (codes "eq") (34 ∷ rest)
-word_ends rest = λ byte behind more other is longer.
-    none_past_word more other (subst (λ (b : ℕ). IsTokenOf other (101 ∷ 113 ∷ b ∷ more)) (sym (ap (first_or 0) is)) longer)
+word_ends rest = λ size other longer. none_past_word (take size rest) other longer
 
 word_before_quote : (rest : List ℕ) → StandsFor kind.Reserved (codes "eq") (34 ∷ rest) (terminal.Order order.Eq)
 word_before_quote rest = record {
