@@ -1,4 +1,4 @@
-ghost use Rattle.std.specs.Prelude.{◌≡◌, ◌+◌, ◌≤◌, ◌++◌, map, nat_lt, IfOk, OnOk};
+ghost use Rattle.std.specs.Prelude.{◌≡◌, ◌+◌, ◌≤◌, ◌++◌, map, nat_lt, codes, IfOk, OnOk};
 ghost use Rattle.expr_parser.specs.Spelling.{joined, within, spelling_at, spelling};
 ghost use Rattle.expr_parser.specs.Reread.{IsReadAgain, SpellingsAreParsedAgain};
 
@@ -48,6 +48,17 @@ fn push_chain(
     out.push(b")")
 }
 
+/// A call: its name, and its arguments in parentheses.
+#[cycle(printing)]
+fn push_call(alloc: Global, out: &mut TextBuilder, name: &[u8], args: &[Expr]) -> Result<(), Memory>
+    ensures { OnOk result (out.new ≡ out.old ++ (name.now ++ codes "(" ++ joined (codes ", ") 0 (map spelling_at args.now) ++ codes ")")) }
+{
+    out.push(name)?;
+    out.push(b"(")?;
+    push_joined(alloc, out, args, b", ", 0)?;
+    out.push(b")")
+}
+
 /// A tree, at a place that binds so tight.
 #[cycle(printing)]
 fn push_expr(alloc: Global, out: &mut TextBuilder, expr: &Expr, tightness: u8) -> Result<(), Memory>
@@ -56,12 +67,7 @@ fn push_expr(alloc: Global, out: &mut TextBuilder, expr: &Expr, tightness: u8) -
     match expr {
         Expr::Lit(lit) => push_lit(alloc, out, lit),
         Expr::Field(name) => out.push(name.bytes()),
-        Expr::Call(name, args) => {
-            out.push(name.bytes())?;
-            out.push(b"(")?;
-            push_joined(alloc, out, args.as_slice(), b", ", 0)?;
-            out.push(b")")
-        }
+        Expr::Call(name, args) => push_call(alloc, out, name.bytes(), args.as_slice()),
         Expr::At(of, at) => {
             push_expr(alloc, out, of.get(), 3)?;
             out.push(b"[")?;
