@@ -1,8 +1,8 @@
-ghost use Rattle.std.specs.Prelude.{◌≡◌, option_map, IfOk};
+ghost use Rattle.std.specs.Prelude.{◌≡◌, ◌∷◌, [], length, option_map, string_bytes, IfOk, MatchOption};
 ghost use Rattle.serde_json.specs.View.{view, items_view};
 ghost use Rattle.trace_form.specs.Asked.{is_header_value, pair_of, header_of, headers_from, headers_of};
 
-use crate::members::{array_of, count_of, has_items, is_token};
+use crate::members::{array_of, count_of, is_token, items_of, string_of};
 use edge_base::{Header, Headers, Memory, Text};
 use serde_json::Value;
 use std::alloc::Global;
@@ -18,41 +18,50 @@ fn is_header_value(text: &[u8]) -> bool
         .all(|&byte| byte != b'\r' && byte != b'\n' && byte != 0)
 }
 
-/// The two texts of a pair.
-fn pair_of(value: &Value) -> Option<(&[u8], &[u8])>
-    ensures { option_map (λ pair. (pair.0.now, pair.1.now)) result ≡ pair_of (view value.now) }
+/// The elements of a list of two.
+fn two_of(items: Vec<Value>) -> Option<(Value, Value)>
+    ensures { MatchOption result (¬ (length items.items ≡ 2)) (λ two. items.items ≡ two.0 ∷ two.1 ∷ []) }
 {
-    if !has_items(value, 2) {
+    if items.len() != 2 {
         return None;
     }
-    let name = value.get(0)?.as_str()?;
-    let text = value.get(1)?.as_str()?;
-    Some((name.as_bytes(), text.as_bytes()))
+    let mut items = items;
+    let second = items.pop()?;
+    let first = items.pop()?;
+    Some((first, second))
 }
 
-/// The header that a pair stands for.
-fn header_of(alloc: Global, value: &Value) -> Result<Option<Header>, Memory>
-    ensures { IfOk result (λ found. found ≡ header_of (view value.now)) }
+/// The two texts of a pair, taken out of it.
+fn pair_of(value: Value) -> Option<(String, String)>
+    ensures { option_map (λ pair. (string_bytes pair.0, string_bytes pair.1)) result ≡ pair_of (view value) }
 {
-    let Some((name, text)) = pair_of(value) else {
-        return Ok(None);
-    };
-    if !is_token(name) || !is_header_value(text) {
-        return Ok(None);
+    let (first, second) = two_of(items_of(value)?)?;
+    let name = string_of(first)?;
+    let text = string_of(second)?;
+    Some((name, text))
+}
+
+/// The header that a pair stands for, whose texts it takes without a copy.
+fn header_of(value: Value) -> Option<Header>
+    ensures { result ≡ header_of (view value) }
+{
+    let (name, text) = pair_of(value)?;
+    if !is_token(name.as_bytes()) || !is_header_value(text.as_bytes()) {
+        return None;
     }
-    Ok(Some(Header {
-        name: Text::of(alloc, name)?,
-        value: Text::of(alloc, text)?,
-    }))
+    Some(Header {
+        name: Text::from_vec(name.into_bytes()),
+        value: Text::from_vec(text.into_bytes()),
+    })
 }
 
 /// The headers that all these pairs stand for, in order.
-fn headers_from(alloc: Global, values: &[Value]) -> Result<Option<Headers>, Memory>
-    ensures { IfOk result (λ found. found ≡ headers_from (items_view values.now)) }
+fn headers_from(alloc: Global, values: Vec<Value>) -> Result<Option<Headers>, Memory>
+    ensures { IfOk result (λ found. found ≡ headers_from (items_view values.items)) }
 {
     let mut headers = Headers::new(alloc);
     for value in values {
-        let Some(header) = header_of(alloc, value)? else {
+        let Some(header) = header_of(value) else {
             return Ok(None);
         };
         headers.push(header)?;
@@ -60,14 +69,14 @@ fn headers_from(alloc: Global, values: &[Value]) -> Result<Option<Headers>, Memo
     Ok(Some(headers))
 }
 
-/// The headers of a request.
-pub(crate) fn headers_of(alloc: Global, value: &Value) -> Result<Option<Headers>, Memory>
-    ensures { IfOk result (λ found. found ≡ headers_of (view value.now)) }
+/// The headers of a request, taken out of it.
+pub(crate) fn headers_of(alloc: Global, value: Value) -> Result<Option<Headers>, Memory>
+    ensures { IfOk result (λ found. found ≡ headers_of (view value)) }
 {
     let Some(pairs) = array_of(value, "headers") else {
         return Ok(None);
     };
-    if count_of(pairs) <= MAX_HEADERS {
+    if count_of(pairs.as_slice()) <= MAX_HEADERS {
         headers_from(alloc, pairs)
     } else {
         Ok(None)

@@ -1,8 +1,9 @@
-ghost use Rattle.std.specs.Prelude.{◌≡◌, option_map};
+ghost use Rattle.std.specs.Prelude.{◌≡◌, option_map, string_bytes};
 ghost use Rattle.std.specs.List.{list_all};
 ghost use Rattle.serde_json.specs.Events.{items_len};
 ghost use Rattle.serde_json.specs.View.{view, items_view};
-ghost use Rattle.trace_form.specs.Members.{has_members, has_items, text_of, array_of, is_token_byte, is_token};
+ghost use Rattle.serde_json.specs.Find.{get, as_str, as_array};
+ghost use Rattle.trace_form.specs.Members.{has_members, text_of, array_of, is_token_byte, is_token};
 
 use serde_json::Value;
 
@@ -26,16 +27,6 @@ pub(crate) fn count_of(values: &[Value]) -> usize
     values.len()
 }
 
-/// Whether the value is an array of so many elements.
-pub(crate) fn has_items(value: &Value, count: usize) -> bool
-    ensures { result ≡ has_items count (view value.now) }
-{
-    match value.as_array() {
-        Some(items) => count_of(items.as_slice()) == count,
-        None => false,
-    }
-}
-
 /// The text of a member.
 pub fn text_of<'v>(value: &'v Value, name: &str) -> Option<&'v [u8]>
     ensures { option_map (λ text. text.now) result ≡ text_of name.now (view value.now) }
@@ -44,12 +35,41 @@ pub fn text_of<'v>(value: &'v Value, name: &str) -> Option<&'v [u8]>
     Some(text.as_bytes())
 }
 
-/// The elements of a member that is an array.
-pub(crate) fn array_of<'v>(value: &'v Value, name: &str) -> Option<&'v [Value]>
-    ensures { option_map (λ values. items_view values.now) result ≡ array_of name.now (view value.now) }
+/// A member of an object, taken out of it.
+fn member_of(value: Value, name: &str) -> Option<Value>
+    ensures { option_map view result ≡ get name.now (view value) }
 {
-    let values = value.get(name)?.as_array()?;
-    Some(values.as_slice())
+    match value {
+        Value::Object(mut members) => members.remove(name),
+        _ => None,
+    }
+}
+
+/// The elements of an array.
+pub(crate) fn items_of(value: Value) -> Option<Vec<Value>>
+    ensures { option_map (λ values. items_view values.items) result ≡ as_array (view value) }
+{
+    match value {
+        Value::Array(values) => Some(values),
+        _ => None,
+    }
+}
+
+/// The elements of a member that is an array, taken out of the object.
+pub(crate) fn array_of(value: Value, name: &str) -> Option<Vec<Value>>
+    ensures { option_map (λ values. items_view values.items) result ≡ array_of name.now (view value) }
+{
+    items_of(member_of(value, name)?)
+}
+
+/// The text that a value is.
+pub(crate) fn string_of(value: Value) -> Option<String>
+    ensures { option_map string_bytes result ≡ as_str (view value) }
+{
+    match value {
+        Value::String(text) => Some(text),
+        _ => None,
+    }
 }
 
 fn is_token_byte(byte: u8) -> bool

@@ -63,11 +63,11 @@ fn deployed_of(value: &Value) -> Option<&Value>
 }
 
 /// The item that a value is.
-fn item_of(alloc: Global, value: &Value) -> Result<LineItem, LineFault>
-    ensures ok { IfOk result (λ item. IsValueItem (view value.now) item) }
-    ensures bad { IsErrOf result (LineFault.Bad BadCause.Unsupported) → IsNoValueItem (view value.now) }
+fn item_of(alloc: Global, value: Value) -> Result<LineItem, LineFault>
+    ensures ok { IfOk result (λ item. IsValueItem (view value) item) }
+    ensures bad { IsErrOf result (LineFault.Bad BadCause.Unsupported) → IsNoValueItem (view value) }
 {
-    if let Some(deployed) = deployed_of(value) {
+    if let Some(deployed) = deployed_of(&value) {
         return Ok(LineItem::Deploy(deployed.clone()?));
     }
     match request_of(alloc, value)? {
@@ -91,5 +91,5 @@ pub fn read_item(alloc: Global, line: &[u8]) -> Result<LineItem, LineFault>
         return Ok(LineItem::Blank);
     }
     let value = value_of(alloc, line)?;
-    item_of(alloc, &value)
+    item_of(alloc, value)
 }

@@ -68,25 +68,27 @@ fn target_of(value: &Value) -> Option<&[u8]>
     if is_target(text) { Some(text) } else { None }
 }
 
-/// The request that an object tells.
-pub(crate) fn request_of(alloc: Global, value: &Value) -> Result<Option<Request>, Memory>
-    ensures { IfOk result (λ found. MatchOption found ((request : Request) → ¬ (IsRequest (view value.now) request)) (λ request. IsRequest (view value.now) request)) }
+/// The request that an object tells. The texts of the headers are taken out of it.
+pub(crate) fn request_of(alloc: Global, value: Value) -> Result<Option<Request>, Memory>
+    ensures { IfOk result (λ found. MatchOption found ((request : Request) → ¬ (IsRequest (view value) request)) (λ request. IsRequest (view value) request)) }
 {
-    if !has_members(value, 5) {
+    if !has_members(&value, 5) {
         return Ok(None);
     }
-    let Some(at) = moment_of(value) else {
+    let Some(at) = moment_of(&value) else {
         return Ok(None);
     };
-    let Some(from) = peer_of(value) else {
+    let Some(from) = peer_of(&value) else {
         return Ok(None);
     };
-    let Some(method) = method_of(value) else {
+    let Some(method) = method_of(&value) else {
         return Ok(None);
     };
-    let Some(target) = target_of(value) else {
+    let Some(target) = target_of(&value) else {
         return Ok(None);
     };
+    let method = Text::of(alloc, method)?;
+    let target = Text::of(alloc, target)?;
     let Some(headers) = headers_of(alloc, value)? else {
         return Ok(None);
     };
@@ -94,8 +96,8 @@ pub(crate) fn request_of(alloc: Global, value: &Value) -> Result<Option<Request>
         at,
         from,
         ssl: false,
-        method: Text::of(alloc, method)?,
-        target: Text::of(alloc, target)?,
+        method,
+        target,
         minor: 1,
         headers,
         body: Text::from_vec(Vec::new(alloc)),
