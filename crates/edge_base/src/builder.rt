@@ -4,6 +4,7 @@ ghost use Rattle.edge_base.specs.Printed.{is_printed_byte, hex_digit, escaped_by
 
 use crate::refusal::Memory;
 use crate::text::Text;
+use itoa::Buffer;
 use std::alloc::Global;
 use std::marker::Model;
 
@@ -56,11 +57,11 @@ impl TextBuilder {
     }
 
     /// A number in decimal.
-    pub fn push_number(&mut self, alloc: Global, n: u64) -> Result<(), Memory>
+    pub fn push_number(&mut self, n: u64) -> Result<(), Memory>
         ensures { OnOk result (self.new ≡ self.old ++ decimal n) }
     {
-        let digits = n.to_string(alloc)?;
-        self.push(digits.as_bytes())
+        let mut digits = Buffer::new();
+        self.push(digits.format(n).as_bytes())
     }
 
     /// One byte, as itself or as `%` and two digits.

@@ -83,7 +83,7 @@ impl Replay {
     }
 
     /// Answers a line that is too long to be an item.
-    fn take_long<K: Sink>(&mut self, alloc: Global, out: &mut K) -> Turn
+    fn take_long<K: Sink>(&mut self, out: &mut K) -> Turn
         requires { self.old.run.lines < 2 ^ 40 }
         ensures line { (given : List ℕ) → 2 ^ 20 < length given → LineOf result self.old.run given self.new.run (K.got out.old) (K.got out.new) self.old.pending self.new.pending }
         ensures lines { result ≡ Turn.Next → self.new.run.lines ≡ self.old.run.lines + 1 }
@@ -92,7 +92,7 @@ impl Replay {
         ensures write { result ≡ Turn.Ended Status.WriteFault → Rose (K.faults out.old) (K.faults out.new) }
         ensures later { K.faults out.old ≤ K.faults out.new }
     {
-        if self.run.refuse(alloc, &mut self.answer).is_err() {
+        if self.run.refuse(&mut self.answer).is_err() {
             return Turn::Ended(Status::Memory);
         }
         give(self.answer.bytes(), &mut self.pending, out)
@@ -116,7 +116,7 @@ impl Replay {
     {
         match self.reader.next(input) {
             LineStep::Line => self.take_line(alloc, out),
-            LineStep::Long => self.take_long(alloc, out),
+            LineStep::Long => self.take_long(out),
             LineStep::End => Turn::Ended(self.run.ending()),
             LineStep::Fault => Turn::Ended(Status::ReadFault),
             LineStep::LongInput => Turn::Ended(Status::LongInput),

@@ -61,12 +61,12 @@ impl Run {
     }
 
     /// A line that is no item.
-    pub fn refuse(&mut self, alloc: Global, answer: &mut TextBuilder) -> Result<(), Memory>
+    pub fn refuse(&mut self, answer: &mut TextBuilder) -> Result<(), Memory>
         requires { self.old.lines < 2 ^ 40 }
         ensures { OnOk result (Refused self.old answer.new self.new) }
     {
         answer.clear();
-        push_bad_line(answer, alloc, self.lines + 1, BadCause::Unsupported)?;
+        push_bad_line(answer, self.lines + 1, BadCause::Unsupported)?;
         self.lines += 1;
         self.any_bad = true;
         Ok(())
@@ -83,10 +83,10 @@ impl Run {
         ensures { OnOk result (Redeployed (deployed_of (view value.now)) self.old answer.new self.new) }
     {
         let Some(deployed) = deployed_of(alloc, value)? else {
-            return self.refuse(alloc, answer);
+            return self.refuse(answer);
         };
         answer.clear();
-        push_deploy_line(answer, alloc, self.version + 1)?;
+        push_deploy_line(answer, self.version + 1)?;
         self.lines += 1;
         self.version += 1;
         self.deployed = deployed;
@@ -110,7 +110,7 @@ impl Run {
             request,
         };
         answer.clear();
-        push_line(answer, alloc, &parts)?;
+        push_line(answer, &parts)?;
         self.lines += 1;
         self.requests += 1;
         Ok(())
@@ -136,7 +136,7 @@ impl Run {
                 let Recorded { request, reply: _ } = recorded;
                 self.judge(alloc, request, answer)
             }
-            Err(LineFault::Bad(_)) => self.refuse(alloc, answer),
+            Err(LineFault::Bad(_)) => self.refuse(answer),
             Err(LineFault::Memory) => Err(Memory),
         }
     }

@@ -33,13 +33,13 @@ pub fn push_quoted(out: &mut TextBuilder, text: &[u8]) -> Result<(), Memory>
     out.push(b"\"")
 }
 
-pub fn push_signed(alloc: Global, out: &mut TextBuilder, n: i64) -> Result<(), Memory>
+pub fn push_signed(out: &mut TextBuilder, n: i64) -> Result<(), Memory>
     ensures { OnOk result (out.new ≡ out.old ++ signed n) }
 {
     if n < 0 {
         out.push(b"-")?;
     }
-    out.push_number(alloc, n.unsigned_abs())
+    out.push_number(n.unsigned_abs())
 }
 
 fn push_addr(alloc: Global, out: &mut TextBuilder, addr: Addr) -> Result<(), Memory>
@@ -54,7 +54,7 @@ pub fn push_lit(alloc: Global, out: &mut TextBuilder, lit: &Lit) -> Result<(), M
 {
     match lit {
         Lit::Text(text) => push_quoted(out, text.bytes()),
-        Lit::Num(number) => push_signed(alloc, out, *number),
+        Lit::Num(number) => push_signed(out, *number),
         Lit::Addr(addr) => push_addr(alloc, out, *addr),
         Lit::Bool(true) => out.push(b"true"),
         Lit::Bool(false) => out.push(b"false"),
@@ -80,9 +80,9 @@ fn push_item(alloc: Global, out: &mut TextBuilder, item: &Item) -> Result<(), Me
     match item {
         Item::One(lit) => push_lit(alloc, out, lit),
         Item::Nums(first, last) => {
-            push_signed(alloc, out, *first)?;
+            push_signed(out, *first)?;
             out.push(b"..")?;
-            push_signed(alloc, out, *last)
+            push_signed(out, *last)
         }
         Item::Addrs(first, last) => {
             push_addr(alloc, out, *first)?;
@@ -92,7 +92,7 @@ fn push_item(alloc: Global, out: &mut TextBuilder, item: &Item) -> Result<(), Me
         Item::Block(addr, bits) => {
             push_addr(alloc, out, *addr)?;
             out.push(b"/")?;
-            out.push_number(alloc, u64::from(*bits))
+            out.push_number(u64::from(*bits))
         }
     }
 }

@@ -71,7 +71,7 @@ fn push_expr(alloc: Global, out: &mut TextBuilder, expr: &Expr, tightness: u8) -
         Expr::At(of, at) => {
             push_expr(alloc, out, of.get(), 3)?;
             out.push(b"[")?;
-            push_signed(alloc, out, *at)?;
+            push_signed(out, *at)?;
             out.push(b"]")
         }
         Expr::Key(of, key) => {

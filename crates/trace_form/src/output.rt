@@ -19,19 +19,19 @@ pub struct LineParts {
 }
 
 /// The kind of a verdict, with its status.
-fn push_kind(out: &mut TextBuilder, alloc: Global, kind: &VerdictKind) -> Result<(), Memory>
+fn push_kind(out: &mut TextBuilder, kind: &VerdictKind) -> Result<(), Memory>
     ensures { OnOk result (out.new ≡ out.old ++ kind_text kind.now) }
 {
     match kind {
         VerdictKind::Pass => out.push(b"pass"),
         VerdictKind::Block(response) => {
             out.push(b"block:")?;
-            out.push_number(alloc, u64::from(response.status_code))
+            out.push_number(u64::from(response.status_code))
         }
         VerdictKind::Challenge => out.push(b"challenge"),
         VerdictKind::Redirect { status, target: _ } => {
             out.push(b"redirect:")?;
-            out.push_number(alloc, u64::from(*status))
+            out.push_number(u64::from(*status))
         }
     }
 }
@@ -95,14 +95,14 @@ fn push_location(out: &mut TextBuilder, kind: &VerdictKind) -> Result<(), Memory
 
 /// How a request was judged, up to its target.
 #[tactic(auto, unfolding(crate::specs::Line::judged_text))]
-fn push_judged(out: &mut TextBuilder, alloc: Global, parts: &LineParts) -> Result<(), Memory>
+fn push_judged(out: &mut TextBuilder, parts: &LineParts) -> Result<(), Memory>
     ensures { OnOk result (out.new ≡ out.old ++ judged_text parts.now) }
 {
-    out.push_number(alloc, parts.number)?;
+    out.push_number(parts.number)?;
     out.push(b" v")?;
-    out.push_number(alloc, parts.version)?;
+    out.push_number(parts.version)?;
     out.push(b" ")?;
-    push_kind(out, alloc, &parts.verdict.kind)?;
+    push_kind(out, &parts.verdict.kind)?;
     out.push(b" ")?;
     push_ending(out, &parts.verdict.rule)?;
     out.push(b" ")?;
@@ -111,10 +111,10 @@ fn push_judged(out: &mut TextBuilder, alloc: Global, parts: &LineParts) -> Resul
 
 /// Writes the line of a judged request.
 #[tactic(auto, unfolding(crate::specs::Line::line))]
-pub fn push_line(out: &mut TextBuilder, alloc: Global, parts: &LineParts) -> Result<(), Memory>
+pub fn push_line(out: &mut TextBuilder, parts: &LineParts) -> Result<(), Memory>
     ensures { OnOk result (out.new ≡ out.old ++ line parts.now) }
 {
-    push_judged(out, alloc, parts)?;
+    push_judged(out, parts)?;
     out.push(b" -")?;
     push_noted(out, parts.verdict.noted.as_slice())?;
     push_location(out, &parts.verdict.kind)?;
@@ -122,25 +122,20 @@ pub fn push_line(out: &mut TextBuilder, alloc: Global, parts: &LineParts) -> Res
 }
 
 /// Writes the line of a deployment that was put in force as this version.
-pub fn push_deploy_line(out: &mut TextBuilder, alloc: Global, version: u64) -> Result<(), Memory>
+pub fn push_deploy_line(out: &mut TextBuilder, version: u64) -> Result<(), Memory>
     ensures { OnOk result (out.new ≡ out.old ++ deploy_line version) }
 {
     out.push(b"deploy v")?;
-    out.push_number(alloc, version)?;
+    out.push_number(version)?;
     out.push(b"\n")
 }
 
 /// Writes the line of an input line that is no item.
-pub fn push_bad_line(
-    out: &mut TextBuilder,
-    alloc: Global,
-    number: u64,
-    cause: BadCause,
-) -> Result<(), Memory>
+pub fn push_bad_line(out: &mut TextBuilder, number: u64, cause: BadCause) -> Result<(), Memory>
     ensures { OnOk result (out.new ≡ out.old ++ bad_line number cause) }
 {
     out.push(b"bad ")?;
-    out.push_number(alloc, number)?;
+    out.push_number(number)?;
     out.push(b" ")?;
     out.push(cause.name())?;
     out.push(b"\n")
@@ -151,6 +146,6 @@ pub fn line_of(alloc: Global, parts: &LineParts) -> Result<Text, Memory>
     ensures { IfOk result (λ text. text ≡ line parts.now) }
 {
     let mut out = TextBuilder::new(alloc);
-    push_line(&mut out, alloc, parts)?;
+    push_line(&mut out, parts)?;
     Ok(out.into_text())
 }

@@ -240,8 +240,8 @@ fn requests_are_answered(rt: HostRuntime) -> Result<(), Fail> {
 fn other_lines_are_answered(rt: HostRuntime) -> Result<(), Fail> {
     let alloc = rt.alloc();
     let mut out = TextBuilder::new(alloc);
-    push_deploy_line(&mut out, alloc, 12)?;
-    push_bad_line(&mut out, alloc, 2, BadCause::Unsupported)?;
+    push_deploy_line(&mut out, 12)?;
+    push_bad_line(&mut out, 2, BadCause::Unsupported)?;
     assert_eq!(rt; out.bytes(), b"deploy v12\nbad 2 Unsupported\n".as_slice());
     Ok(())
 }

@@ -1,4 +1,4 @@
-use Rattle.std.proofs.Common.{sym, ◌∙◌}
+use Rattle.std.proofs.Common.{sym}
 use Rattle.serde_json.specs.View.{view}
 use Rattle.trace_form.proofs.PairLemmas.{no_pair}
 use Rattle.trace_form.proofs.headers.pair_of.Goals as goal
