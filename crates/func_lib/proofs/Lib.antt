@@ -1,0 +1,5 @@
+pub mod JsonLemmas
+pub mod KindLemmas
+pub mod PieceLemmas
+pub mod TakeLemmas
+pub mod UrlLemmas
