@@ -1,0 +1,13 @@
+pub mod Matching
+pub mod Building
+pub mod Checking
+pub mod Judging
+pub mod Meaning
+pub mod NamesFound
+pub mod Parameters
+pub mod Places
+pub mod Sorts
+pub mod TestKinds
+pub mod Tests
+pub mod Trees
+pub mod Values
