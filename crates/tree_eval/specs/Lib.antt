@@ -1,0 +1,5 @@
+pub mod Calls
+pub mod Given
+pub mod Passed
+pub mod Seen
+pub mod Settings
