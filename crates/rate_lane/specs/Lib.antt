@@ -1,0 +1,5 @@
+pub mod Order
+pub mod KeyState
+pub mod Index
+pub mod Stepping
+pub mod Lane

@@ -1,0 +1,11 @@
+//! Counting with memory that doesn't grow with the history: a lane keeps its live keys alone, each with the moments
+//! that still count, and answers as the window rule does over the list of all its steps.
+#![tactic(auto)]
+
+mod index;
+mod key_state;
+mod lane;
+mod order;
+mod stepping;
+
+pub use lane::Lane;
