@@ -1,5 +1,7 @@
+pub mod BorderLemmas
 pub mod Crosses
-pub mod CutLemmas
+pub mod NeedleLemmas
 pub mod PatternLemmas
 pub mod Pieces
+pub mod SplitLemmas
 pub mod TurnLemmas

@@ -1,5 +1,5 @@
 -- What a built regex finds is what the grammar's reading of its text finds.
-use Rattle.std.proofs.Common.{◌≡◌, ℕ, zero, suc, ◌+◌, ◌*◌, ◌<◌, ◌≤◌, false, List, ◌∷◌, ◌++◌, map, take, drop, get_or, Option, None, Some, IsSomeAnd, is_some, option_map, refl, sym, ap, ap₂, subst, ◌∙◌, arith}
+use Rattle.std.proofs.Common.{◌≡◌, ℕ, zero, suc, ◌+◌, ◌*◌, ◌<◌, ◌≤◌, false, List, ◌∷◌, ◌++◌, map, take, drop, get_or, Option, None, Some, IsSomeAnd, is_some, option_map, Result, Ok, Err, IfOk, refl, sym, ap, ap₂, subst, ◌∙◌, arith}
 use Rattle.std.specs.Prelude.{option_and_then}
 use Rattle.std.specs.List.{range_with_len}
 use Rattle.std.specs.Str.{chars}
@@ -25,8 +25,8 @@ use Rattle.regex.specs.Writes.{both, group_of}
 use Rattle.regex.specs.Bytes.{regex_pattern, regex_source, match_span, captures_span, captures_haystack, IsCapturesOf}
 use Rattle.regex.specs.declared.bytes.regex.Regex.{Regex}
 use Rattle.regex.proofs.ForCallers.{is_match_alike, span_alike, found_alike}
-use Rattle.text_match.specs.Patterns.{bytes_config, IsPattern, first_match, text_at, groups_of, replaced}
-use Rattle.text_match.specs.Regexes.{IsOfItsText, fault_for}
+use Rattle.text_match.specs.Patterns.{bytes_config, IsPattern, first_match, text_at, group_texts_of, replaced}
+use Rattle.text_match.specs.Regexes.{IsOfItsText, fault_for, IsReplaced}
 use Rattle.text_match.specs.Replacement.{filled}
 
 -- a weaker fact of what an option holds
@@ -131,7 +131,12 @@ whole_span c = refl
 pub replace_is : (text replacement : List ℕ) (c : Captures) (m : Match) (place : ℕ × ℕ) (groups : List (List ℕ)) → IsCapturesOf text m c → Some place ≡ captures_span c 0 → groups ≡ map (λ n. text_at (captures_haystack c) (captures_span c n)) (range_with_len 1 8) → take place.0 text ++ (filled groups replacement ++ drop place.1 text) ≡ replaced text replacement (Some m)
 replace_is text replacement c m place groups are whole is =
     let places : place ≡ span m = same_Some _ _ (whole ∙ whole_span c) ∙ are.1.whole_is in
-    let all : groups ≡ groups_of text m =
+    let all : groups ≡ group_texts_of text m =
     is ∙ map_from (λ n. text_at (captures_haystack c) (captures_span c n)) (λ n. text_at text (group_of m n)) 1 8 (λ k up. ap₂ text_at are.0 (are.2 k up)) in
     ap (λ gs. take place.0 text ++ (filled gs replacement ++ drop place.1 text)) all
-    ∙ ap (λ (s : ℕ × ℕ). take s.0 text ++ (filled (groups_of text m) replacement ++ drop s.1 text)) places
+    ∙ ap (λ (s : ℕ × ℕ). take s.0 text ++ (filled (group_texts_of text m) replacement ++ drop s.1 text)) places
+
+-- what holds of all matches with these captures holds of this one
+pub replaced_with : {E : Type 0} (text replacement : List ℕ) (c : Captures) (m : Match) → IsCapturesOf text m c → (r : Result (List ℕ) E) → IfOk r (IsReplaced text replacement c) → IfOk r (λ whole. whole ≡ replaced text replacement (Some m))
+replaced_with text replacement c m are (Ok whole) is = is m are
+replaced_with text replacement c m are (Err refused) is = tt

@@ -1,4 +1,5 @@
-pub mod Cuts
+pub mod Borders
+pub mod Splits
 pub mod Marks
 pub mod Patterns
 pub mod Replacement

@@ -13,7 +13,8 @@ bytes_config = record default_config { utf8 = false }
 
 -- the text is a pattern: UTF-8 that the grammar of `regex` reads, nested within its limit
 abbrev pub IsPattern : List ℕ → Type 0
-IsPattern text = IsUtf8 text × IsSomeAnd (read bytes_config (chars text)) (λ (re, _). re.depth ≤ bytes_config.nest_limit)
+IsPattern text =
+    IsUtf8 text × IsSomeAnd (read bytes_config (chars text)) (λ (re, _). re.depth ≤ bytes_config.nest_limit)
 
 -- the leftmost match of a pattern in a text
 abbrev pub first_match : List ℕ → List ℕ → Option Match
@@ -25,11 +26,11 @@ text_at text None = []
 text_at text (Some place) = slice_range text place.0 place.1
 
 -- what the groups 1 to 8 of a match hold
-abbrev pub groups_of : List ℕ → Match → List (List ℕ)
-groups_of text m = map (λ n. text_at text (group_of m n)) (range_with_len 1 8)
+abbrev pub group_texts_of : List ℕ → Match → List (List ℕ)
+group_texts_of text m = map (λ n. text_at text (group_of m n)) (range_with_len 1 8)
 
 -- the text with the match replaced, or as it is where there is none
 abbrev pub replaced : List ℕ → List ℕ → Option Match → List ℕ
 replaced text replacement None = text
 replaced text replacement (Some m) =
-    take (span m).0 text ++ (filled (groups_of text m) replacement ++ drop (span m).1 text)
+    take (span m).0 text ++ (filled (group_texts_of text m) replacement ++ drop (span m).1 text)

@@ -4,7 +4,8 @@ use Rattle.std.specs.Prelude.{ℕ, ◌-◌, Bool, ◌&&◌, ◌==◌, nat_le, if
 
 -- these four bytes read `${n}`, with one digit n from 1 to 8
 abbrev pub is_reference : ℕ → ℕ → ℕ → ℕ → Bool
-is_reference dollar brace digit close = dollar == 36 && brace == 123 && (nat_le 49 digit && nat_le digit 56) && close == 125
+is_reference dollar brace digit close =
+    dollar == 36 && brace == 123 && (nat_le 49 digit && nat_le digit 56) && close == 125
 
 -- the part at a place, or nothing beyond the last
 abbrev pub part_at : List (List ℕ) → ℕ → List ℕ

@@ -1,5 +1,5 @@
 -- Wildcards: how a pattern is read, what it matches, and what its stars stand for. 42 is `*`, and 92 is `\`.
-use Rattle.std.specs.Prelude.{◌≡◌, ℕ, ◌<◌, Bool, if◌then◌else◌, ◌==◌, ◌&&◌, ◌||◌, Option, None, Some, List, [], ◌∷◌, ◌++◌, length, map, ◌⊎◌}
+use Rattle.std.specs.Prelude.{◌≡◌, ℕ, ◌<◌, Bool, if◌then◌else◌, ◌==◌, ◌&&◌, ◌||◌, Option, None, Some, List, [], ◌∷◌, ◌++◌, length, map, ◌⊎◌, MatchOption}
 use Rattle.std.specs.Char.{to_ascii_lowercase}
 use Rattle.text_match.specs.declared.reading.WildFault.{WildFault}
 use Rattle.text_match.specs.declared.reading.WildFault.TheVariants.{DoubleStar, BadEscape}
@@ -12,6 +12,10 @@ fault_of (byte ∷ next ∷ rest) =
     if byte == 92 then (if next == 42 || next == 92 then fault_of rest else Some BadEscape)
     else if byte == 42 && next == 42 then Some DoubleStar
     else fault_of (next ∷ rest)
+
+-- the pattern has this fault first
+abbrev pub HasFault : List ℕ → WildFault → Type 0
+HasFault pattern fault = fault_of pattern ≡ Some fault
 
 -- a byte in front of the first of some pieces
 abbrev pub onto_first : ℕ → List (List ℕ) → List (List ℕ)
@@ -32,7 +36,7 @@ abbrev pub compared : Bool → List ℕ → List ℕ
 compared strict text = if strict then text else map to_ascii_lowercase text
 
 -- the text is `before`, then the piece, then `after`
-pub record IsCut (strict : Bool) (piece text before after : List ℕ) : Type 0 where
+pub record IsSplit (strict : Bool) (piece text before after : List ℕ) : Type 0 where
   pub found : List ℕ
   pub is_text : text ≡ before ++ (found ++ after)
   pub is_piece : compared strict found ≡ compared strict piece
@@ -43,13 +47,13 @@ AreTurns strict [] text [] = text ≡ []
 AreTurns strict [] text (taken ∷ takes) = ⊥
 AreTurns strict (piece ∷ pieces) text [] = ⊥
 AreTurns strict (piece ∷ pieces) text (taken ∷ takes) =
-    (rest : List ℕ) × IsCut strict piece text taken rest × AreTurns strict pieces rest takes
+    (rest : List ℕ) × IsSplit strict piece text taken rest × AreTurns strict pieces rest takes
 
 -- the text is the pieces joined by the takes, in order
 abbrev pub Match : List (List ℕ) → Bool → List ℕ → List (List ℕ) → Type 0
 Match [] strict text takes = ⊥
 Match (piece ∷ pieces) strict text takes =
-    (rest : List ℕ) × IsCut strict piece text [] rest × AreTurns strict pieces rest takes
+    (rest : List ℕ) × IsSplit strict piece text [] rest × AreTurns strict pieces rest takes
 
 -- some takes match
 abbrev pub IsMatched : List (List ℕ) → Bool → List ℕ → Type 0
@@ -61,10 +65,19 @@ IsNoLater [] others = Unit {0}
 IsNoLater (n ∷ lengths) [] = ⊥
 IsNoLater (n ∷ lengths) (m ∷ others) = (n < m) ⊎ ((n ≡ m) × IsNoLater lengths others)
 
+-- no others that are so have lengths that come before these in dictionary order
+abbrev pub AreLeast : List (List ℕ) → (List (List ℕ) → Type 0) → Type 0
+AreLeast takes AreSo = (others : List (List ℕ)) → AreSo others → IsNoLater (map length takes) (map length others)
+
 -- the first takes: those that match and whose lengths are least in dictionary order
 pub record First (pieces : List (List ℕ)) (strict : Bool) (text : List ℕ) (takes : List (List ℕ)) : Type 0 where
   pub is_match : Match pieces strict text takes
-  pub is_least : (others : List (List ℕ)) → Match pieces strict text others → IsNoLater (map length takes) (map length others)
+  pub is_least : AreLeast takes (Match pieces strict text)
+
+-- the first takes where some match, else none
+abbrev pub IsFirst : List (List ℕ) → Bool → List ℕ → Option (List (List ℕ)) → Type 0
+IsFirst pieces strict text found =
+    MatchOption found (¬ (IsMatched pieces strict text)) (λ takes. First pieces strict text takes)
 
 -- a wildcard has no more than one list of first takes in a text
 abbrev pub FirstTakesAreUnique : Type 0

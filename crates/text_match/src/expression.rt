@@ -5,7 +5,8 @@ use regex::bytes::Regex;
 use std::alloc::{AllocError, Global};
 use std::marker::Model;
 
-/// A built expression. What is said of it beside its field is nothing, so that its own proofs of `Send` and `Sync` are asked, and not those of all that the field holds.
+/// A built expression. What is said of it beside its field is nothing, so that its own proofs of `Send` and `Sync` are
+/// asked, and not those of all that the field holds.
 #[derive(Drop)]
 pub(crate) struct Built {
     regex: Box<Regex>,

@@ -1,12 +1,13 @@
 //! Whether a text matches a wildcard or a pattern of `regex`, and what the stars and groups stand for.
 #![tactic(auto)]
 
-mod cutting;
 mod expression;
+mod needle;
 mod pattern;
 mod reading;
 mod replacement;
 mod sharing;
+mod splitting;
 #[cfg(test)]
 mod tests;
 mod wildcard;

@@ -1,10 +1,8 @@
 //! Patterns of `regex`, over bytes.
-ghost use Rattle.std.specs.Prelude.{◌≡◌, ◌≤◌, List, ℕ, Some, is_some, map, IfOk, OnOk, IsErrOf};
-ghost use Rattle.std.specs.List.{range_with_len};
-ghost use Rattle.regex.specs.Patterns.{Match};
-ghost use Rattle.regex.specs.Bytes.{captures_haystack, captures_span, IsCapturesOf};
+ghost use Rattle.std.specs.Prelude.{◌≡◌, is_some, IfOk, OnOk, IsErrOf};
+ghost use Rattle.regex.specs.Bytes.{captures_haystack, captures_span};
 ghost use Rattle.text_match.specs.Patterns.{IsPattern, first_match, text_at, replaced};
-ghost use Rattle.text_match.specs.Regexes.{fault_for};
+ghost use Rattle.text_match.specs.Regexes.{fault_for, captured_texts, IsReplaced};
 
 use crate::expression::Built;
 use crate::replacement::fill;
@@ -67,8 +65,7 @@ fn group_text<'h>(captures: &Captures<'_, 'h>, group: usize) -> &'h [u8]
 
 /// What the groups 1 to 8 of a match hold.
 fn group_texts(alloc: Global, captures: &Captures<'_, '_>) -> Result<Texts, Memory>
-    ensures { IfOk result (λ texts. texts
-        ≡ map (λ n. text_at (captures_haystack captures.now) (captures_span captures.now n)) (range_with_len 1 8)) }
+    ensures { IfOk result (λ texts. texts ≡ captured_texts captures.now) }
 {
     let mut texts = Items::new(alloc);
     for group in 1..9 {
@@ -85,7 +82,7 @@ fn replace(
     replacement: &[u8],
 ) -> Result<Text, Memory>
     requires { captures_haystack captures.now ≡ text.now }
-    ensures { (m : Match) → IsCapturesOf text.now m captures.now → IfOk result (λ whole. whole ≡ replaced text.now replacement.now (Some m)) }
+    ensures { IfOk result (IsReplaced text.now replacement.now captures.now) }
 {
     let found = captures.get_match();
     let groups = group_texts(alloc, captures)?;

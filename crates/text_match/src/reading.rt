@@ -1,7 +1,7 @@
 //! How the text of a wildcard is read: its faults, and its pieces.
-ghost use Rattle.std.specs.Prelude.{◌≡◌, ◌<◌, [], ◌∷◌, None, Some, IfOk, IfSome, MatchOption, MatchResult, length};
-ghost use Rattle.text_match.specs.Wildcards.{fault_of, pieces_of};
-ghost use Rattle.text_match.specs.Marks.{GoesOn};
+ghost use Rattle.std.specs.Prelude.{◌≡◌, ◌<◌, [], IfOk, IfSome, MatchOption, MatchResult, length};
+ghost use Rattle.text_match.specs.Wildcards.{fault_of, HasFault};
+ghost use Rattle.text_match.specs.Marks.{IsFaultOf, GoesOn, BeginsWith};
 
 use edge_base::{Memory, Text, TextBuilder};
 use std::alloc::Global;
@@ -28,7 +28,7 @@ enum Mark {
 #[tactic(auto, unfolding(crate::specs::Wildcards::fault_of))]
 fn after_mark(pattern: &[u8]) -> Result<&[u8], WildFault>
     requires { 0 < length pattern.now }
-    ensures fault { MatchResult result (λ rest. fault_of pattern.now ≡ fault_of rest.now) (λ fault. fault_of pattern.now ≡ Some fault) }
+    ensures fault { MatchResult result (λ rest. IsFaultOf pattern.now rest.now) (HasFault pattern.now) }
     ensures shorter { IfOk result (λ rest. length rest.now < length pattern.now) }
 {
     match pattern {
@@ -71,7 +71,7 @@ fn first_mark(pattern: &[u8]) -> Option<(Mark, &[u8])>
 /// The first piece of a pattern without a fault, and what stands after its star.
 #[tactic(auto, unfolding(crate::specs::Wildcards::pieces_of), using(crate::proofs::Pieces::after_start_more, crate::proofs::Pieces::after_start_star))]
 pub(crate) fn read_piece(alloc: Global, pattern: &[u8]) -> Result<(Text, Option<&[u8]>), Memory>
-    ensures pieces { IfOk result (λ read. MatchOption read.1 (pieces_of pattern.now ≡ read.0 ∷ []) (λ rest. pieces_of pattern.now ≡ read.0 ∷ pieces_of rest.now)) }
+    ensures pieces { IfOk result (λ read. BeginsWith pattern.now read.0 read.1) }
     ensures shorter { IfOk result (λ read. IfSome read.1 (λ rest. length rest.now < length pattern.now)) }
 {
     let mut piece = TextBuilder::new(alloc);

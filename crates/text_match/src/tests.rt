@@ -84,6 +84,10 @@ fn wildcards_match_whole_texts_where_case_is_ignored(rt: HostRuntime) -> Result<
         ("A*B", "aXb", "yes<X>"),
         ("*Ab*", "xxaBAB", "yes<xx><AB>"),
         ("*aa*", "AAA", "yes<><A>"),
+        ("*aab*", "xaAAb", "yes<xa><>"),
+        ("*abac*", "ABABAC!", "yes<AB><!>"),
+        ("*abab*", "abaabaB", "yes<aba><>"),
+        ("*abab*", "abaabaAB", "no"),
         ("É", "é", "no"),
         ("[*", "{a", "no"),
         ("/a", "/A", "yes"),
@@ -151,5 +155,19 @@ fn takes_fill_a_replacement(rt: HostRuntime) -> Result<(), Fail> {
         .ok_or("no match")?;
     let filled = fill(alloc, b"${1}|${2}", takes.as_slice())?;
     assert_eq!(rt; filled.bytes(), b"a|b/c".as_slice());
+    Ok(())
+}
+
+/// So many letters `a`.
+fn repeated(alloc: Global, count: usize) -> Result<Vec<u8>, Fail> {
+    Ok(Vec::from_elem(alloc, b'a', count)?)
+}
+
+#[test]
+fn a_pattern_of_200_bytes_is_built(rt: HostRuntime) -> Result<(), Fail> {
+    let alloc = rt.alloc();
+    let long = Pattern::build(alloc, repeated(alloc, 200)?.as_slice())?;
+    assert!(rt; long.is_match(alloc, repeated(alloc, 201)?.as_slice())?);
+    assert!(rt; !long.is_match(alloc, repeated(alloc, 199)?.as_slice())?);
     Ok(())
 }

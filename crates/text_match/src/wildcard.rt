@@ -1,11 +1,12 @@
 //! Wildcards: texts in which a star stands for any bytes.
-ghost use Rattle.std.specs.Prelude.{◌≡◌, ◌↔◌, ◌∷◌, [], List, ℕ, None, Some, IfOk, OnOk, IsErrOf, IsTrue, MatchOption};
-ghost use Rattle.text_match.specs.Cuts.{HasTurns, AreFirstTurns};
+ghost use Rattle.std.specs.Prelude.{◌≡◌, ◌↔◌, None, IfOk, OnOk, IsErrOf, IsTrue};
+ghost use Rattle.text_match.specs.Splits.{HasTurns, AreFirstFound};
 ghost use Rattle.text_match.specs.Marks.{pieces_left};
-ghost use Rattle.text_match.specs.Wildcards.{fault_of, pieces_of, IsMatched, First, FirstTakesAreUnique};
+ghost use Rattle.text_match.specs.Wildcards.{fault_of, HasFault, pieces_of, IsMatched, IsFirst, FirstTakesAreUnique};
 
-use crate::cutting::{after_front, before_end, first_cut};
+use crate::needle::Needle;
 use crate::reading::{WildFault, first_fault, read_piece};
+use crate::splitting::{after_front, before_end};
 use edge_base::{Memory, Text, Texts};
 use sqlite_items::Items;
 use std::alloc::Global;
@@ -15,7 +16,7 @@ use std::marker::Model;
 #[derive(Debug, Drop)]
 pub struct Wild {
     first: Text,
-    later: Texts,
+    later: Items<Needle>,
 }
 
 impl Model for Wild {
@@ -27,14 +28,14 @@ impl Model for Wild {
 }
 
 /// The pieces that stand after the stars of a pattern without a fault: `rest` is what stands after its first star.
-fn read_later(alloc: Global, rest: Option<&[u8]>) -> Result<Texts, Memory>
+fn read_later(alloc: Global, rest: Option<&[u8]>) -> Result<Items<Needle>, Memory>
     ensures { IfOk result (λ later. later ≡ pieces_left rest.entry) }
 {
     let mut later = Items::new(alloc);
     let mut rest = rest;
     while let Some(pattern) = rest {
         let (piece, after) = read_piece(alloc, pattern)?;
-        later.push(piece)?;
+        later.push(Needle::of(alloc, piece)?)?;
         rest = after;
     }
     Ok(later)
@@ -50,7 +51,7 @@ fn read(alloc: Global, pattern: &[u8]) -> Result<Wild, Memory>
 }
 
 /// Whether a text is takes and these pieces by turns. One pass: a first place of a piece loses no match.
-fn has_turns(pieces: &[Text], text: &[u8], strict: bool) -> bool
+fn has_turns(pieces: &[Needle], text: &[u8], strict: bool) -> bool
     ensures { IsTrue result ↔ HasTurns strict pieces.now text.now }
 {
     let [middle @ .., last] = pieces else {
@@ -58,8 +59,8 @@ fn has_turns(pieces: &[Text], text: &[u8], strict: bool) -> bool
     };
     let mut rest = text;
     for piece in middle {
-        match first_cut(rest, piece.bytes(), strict) {
-            Some(cut) => rest = cut.after,
+        match piece.first_split(rest, strict) {
+            Some(split) => rest = split.after,
             None => return false,
         }
     }
@@ -69,11 +70,11 @@ fn has_turns(pieces: &[Text], text: &[u8], strict: bool) -> bool
 /// The first takes by turns with these pieces.
 fn first_turns(
     alloc: Global,
-    pieces: &[Text],
+    pieces: &[Needle],
     text: &[u8],
     strict: bool,
 ) -> Result<Option<Texts>, Memory>
-    ensures { IfOk result (λ found. MatchOption found (¬ (HasTurns strict pieces.now text.now)) (λ takes. AreFirstTurns strict pieces.now text.now takes)) }
+    ensures { IfOk result (λ found. AreFirstFound strict pieces.now text.now found) }
 {
     let mut takes = Items::new(alloc);
     let [middle @ .., last] = pieces else {
@@ -81,10 +82,10 @@ fn first_turns(
     };
     let mut rest = text;
     for piece in middle {
-        match first_cut(rest, piece.bytes(), strict) {
-            Some(cut) => {
-                takes.push(Text::of(alloc, cut.before)?)?;
-                rest = cut.after;
+        match piece.first_split(rest, strict) {
+            Some(split) => {
+                takes.push(Text::of(alloc, split.before)?)?;
+                rest = split.after;
             }
             None => return Ok(None),
         }
@@ -103,8 +104,8 @@ impl Wild {
     pub fn build(alloc: Global, pattern: &[u8]) -> Result<Wild, WildFault>
         ensures ok { OnOk result (fault_of pattern.now ≡ None) }
         ensures pieces { IfOk result (λ wild. wild ≡ pieces_of pattern.now) }
-        ensures double_star { IsErrOf result WildFault.DoubleStar ↔ (fault_of pattern.now ≡ Some WildFault.DoubleStar) }
-        ensures bad_escape { IsErrOf result WildFault.BadEscape ↔ (fault_of pattern.now ≡ Some WildFault.BadEscape) }
+        ensures double_star { IsErrOf result WildFault.DoubleStar ↔ (HasFault pattern.now WildFault.DoubleStar) }
+        ensures bad_escape { IsErrOf result WildFault.BadEscape ↔ (HasFault pattern.now WildFault.BadEscape) }
     {
         match first_fault(pattern) {
             Some(fault) => Err(fault),
@@ -127,7 +128,7 @@ impl Wild {
 
     /// The first takes: what the stars stand for, where the earlier stars take as little as they can.
     pub fn takes(&self, alloc: Global, text: &[u8], strict: bool) -> Result<Option<Texts>, Memory>
-        ensures { IfOk result (λ found. MatchOption found (¬ (IsMatched self.now strict text.now)) (λ takes. First self.now strict text.now takes)) }
+        ensures { IfOk result (λ found. IsFirst self.now strict text.now found) }
     {
         match after_front(text, self.first.bytes(), strict) {
             Some(rest) => first_turns(alloc, self.later.as_slice(), rest, strict),

@@ -4,7 +4,7 @@ use Rattle.std.specs.List.{range_with_len}
 use Rattle.regex.specs.Bytes.{captures_haystack, captures_span}
 use Rattle.text_match.specs.Patterns.{text_at}
 use Rattle.text_match.specs.Replacement.{filled}
-use Rattle.text_match.proofs.CutLemmas.{take_rest}
+use Rattle.text_match.proofs.SplitLemmas.{take_rest}
 use Rattle.text_match.proofs.PatternLemmas.{replace_is}
 use Rattle.text_match.proofs.pattern.replace.Goals as goal
 

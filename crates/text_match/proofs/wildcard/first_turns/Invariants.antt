@@ -1,6 +1,6 @@
 -- first takes of what is left make first takes of the whole, and where there are none there, there are none at all
 use Rattle.std.proofs.Common.{List, ℕ, ◌++◌, drop}
-use Rattle.text_match.specs.Cuts.{HasTurns, AreFirstTurns}
+use Rattle.text_match.specs.Splits.{HasTurns, AreFirstTurns}
 use Rattle.text_match.proofs.wildcard.first_turns.Given as goal
 
 abbrev pub invariant-loop-piece : goal.invariant-loop-piece

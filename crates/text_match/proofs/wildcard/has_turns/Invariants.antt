@@ -1,6 +1,6 @@
 -- what is left matches exactly where the whole does
 use Rattle.std.proofs.Common.{◌↔◌, drop}
-use Rattle.text_match.specs.Cuts.{HasTurns}
+use Rattle.text_match.specs.Splits.{HasTurns}
 use Rattle.text_match.proofs.wildcard.has_turns.Given as goal
 
 abbrev pub invariant-loop-piece : goal.invariant-loop-piece
