@@ -8,7 +8,7 @@ use Rattle.std.proofs.Math.Nat.{mod-one}
 use Rattle.rate_plain.specs.KeyParts.{KeyParts}
 use Rattle.rate_plain.specs.Hash.{fnv1a64_of}
 use Rattle.rate_plain.specs.Keys.{same_key, key_bytes, lane_of_key}
-use Rattle.rate_plain.specs.Window.{end_of, entries_of, entries_in, latest_of, moment_of, is_counted, weight_of, counted_of, held_until, is_live, live_count, held_or, answer_at, reply_of}
+use Rattle.rate_plain.specs.Window.{end_of, entries_of, entries_in, latest_of, moment_of, is_counted, weight_of, counted_of, held_until, is_live, live_count, held_or, answer_at, answer_of}
 use Rattle.rate_plain.specs.History.{AreOneLane}
 use Rattle.rate_plain.proofs.KeyLemmas.{same_lane}
 use Rattle.rate_plain.specs.declared.entry.Ask.{Ask}
@@ -62,8 +62,8 @@ pub moment_of-lane : (lanes : ℕ) (history : List Entry) (key : KeyParts) (aske
 moment_of-lane lanes history key asked = ap (latest_of asked) (entries_in_again lanes (lane_of_key lanes key) history)
 
 -- and so does its answer
-pub reply_of-lane : (lanes cap : ℕ) (history : List Entry) (ask : Ask) → reply_of lanes cap (entries_in lanes (lane_of_key lanes ask.key) history) ask ≡ reply_of lanes cap history ask
-reply_of-lane lanes cap history ask =
+pub answer_of-lane : (lanes cap : ℕ) (history : List Entry) (ask : Ask) → answer_of lanes cap (entries_in lanes (lane_of_key lanes ask.key) history) ask ≡ answer_of lanes cap history ask
+answer_of-lane lanes cap history ask =
     let lane = lane_of_key lanes ask.key in
     let some = entries_in lanes lane history in
     let at = moment_of lanes history ask.key ask.asked in
@@ -95,8 +95,8 @@ moment_of-one lanes other history key asked one two =
     ap (latest_of asked) (entries_in-one lanes key history one ∙ sym (entries_in-one other key history two))
 
 -- and so is the answer
-pub reply_of-one : (lanes other cap : ℕ) (history : List Entry) (ask : Ask) → AreOneLane lanes ask.key history → AreOneLane other ask.key history → reply_of lanes cap history ask ≡ reply_of other cap history ask
-reply_of-one lanes other cap history ask one two =
+pub answer_of-one : (lanes other cap : ℕ) (history : List Entry) (ask : Ask) → AreOneLane lanes ask.key history → AreOneLane other ask.key history → answer_of lanes cap history ask ≡ answer_of other cap history ask
+answer_of-one lanes other cap history ask one two =
     let same = entries_in-one lanes ask.key history one ∙ sym (entries_in-one other ask.key history two) in
     let at = moment_of other history ask.key ask.asked in
     ap (answer_at lanes cap history ask) (moment_of-one lanes other history ask.key ask.asked one two)
@@ -121,7 +121,7 @@ moment_of-alone lanes history key asked =
     let own = entries_in lanes (lane_of_key lanes key) history in
     moment_of-one 1 lanes own key asked (only_lane key own) (lane_is_one lanes key history) ∙ moment_of-lane lanes history key asked
 
-pub reply_of-alone : (lanes cap : ℕ) (history : List Entry) (ask : Ask) → reply_of 1 cap (entries_in lanes (lane_of_key lanes ask.key) history) ask ≡ reply_of lanes cap history ask
-reply_of-alone lanes cap history ask =
+pub answer_of-alone : (lanes cap : ℕ) (history : List Entry) (ask : Ask) → answer_of 1 cap (entries_in lanes (lane_of_key lanes ask.key) history) ask ≡ answer_of lanes cap history ask
+answer_of-alone lanes cap history ask =
     let own = entries_in lanes (lane_of_key lanes ask.key) history in
-    reply_of-one 1 lanes cap own ask (only_lane ask.key own) (lane_is_one lanes ask.key history) ∙ reply_of-lane lanes cap history ask
+    answer_of-one 1 lanes cap own ask (only_lane ask.key own) (lane_is_one lanes ask.key history) ∙ answer_of-lane lanes cap history ask

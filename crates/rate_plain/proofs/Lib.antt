@@ -2,8 +2,9 @@ pub mod HashLemmas
 pub mod KeyLemmas
 pub mod Distinct
 pub mod WindowLemmas
-pub mod AliveLemmas
+pub mod LiveLemmas
 pub mod LaneLemmas
 pub mod BytesLemmas
 pub mod LegalLemmas
 pub mod BoundLemmas
+pub mod CallerLemmas

@@ -7,7 +7,7 @@ use Rattle.std.proofs.lemmas.List.Sums.{sum_by-append, fold_push}
 use Rattle.rate_plain.specs.KeyParts.{KeyParts}
 use Rattle.rate_plain.specs.Keys.{same_key, lane_of_key}
 use Rattle.rate_plain.specs.Window.{end_of, entries_of, entries_in, latest_of, is_counted, weight_of, counted_of, held_until}
-use Rattle.rate_plain.specs.Alive.{end_above, later_of}
+use Rattle.rate_plain.specs.LiveSteps.{end_above, later_of}
 use Rattle.rate_plain.specs.declared.entry.Entry.{Entry}
 use Rattle.rate_plain.specs.declared.entry.Answer.{Answer}
 use Rattle.rate_plain.specs.declared.entry.Answer.TheVariants.{Pass, Over, Full}

@@ -2,8 +2,8 @@
 use Rattle.std.specs.Prelude.{◌≡◌, ℕ, ◌<◌, ◌≤◌, ◌^◌, ◌≢◌, ◌↔◌, true, List, [], ◌∷◌, ◌++◌, All, take}
 use Rattle.rate_plain.specs.KeyParts.{KeyParts}
 use Rattle.rate_plain.specs.Keys.{same_key, lane_of_key, key_bytes}
-use Rattle.rate_plain.specs.Window.{entries_in, moment_of, reply_of, counted_of, live_count}
-use Rattle.rate_plain.specs.History.{Follows, IsLegal, AreOneLane}
+use Rattle.rate_plain.specs.Window.{entries_in, moment_of, answer_of, counted_of, live_count}
+use Rattle.rate_plain.specs.History.{Follows, IsLegal, AreOneLane, AreAlike}
 use Rattle.rate_plain.specs.declared.entry.Ask.{Ask}
 use Rattle.rate_plain.specs.declared.entry.Entry.{Entry}
 
@@ -29,19 +29,21 @@ LaneGivesMoment = (lanes : ℕ) (history : List Entry) (key : KeyParts) (asked :
     moment_of lanes (entries_in lanes (lane_of_key lanes key) history) key asked ≡ moment_of lanes history key asked
 
 -- and so does its answer
-abbrev pub LaneGivesReply : Type 0
-LaneGivesReply = (lanes cap : ℕ) (history : List Entry) (ask : Ask) →
-    reply_of lanes cap (entries_in lanes (lane_of_key lanes ask.key) history) ask ≡ reply_of lanes cap history ask
+abbrev pub LaneGivesAnswer : Type 0
+LaneGivesAnswer = (lanes cap : ℕ) (history : List Entry) (ask : Ask) →
+    answer_of lanes cap (entries_in lanes (lane_of_key lanes ask.key) history) ask ≡ answer_of lanes cap history ask
 
 -- where all entries are of the key's lane, its moment is the same at any number of lanes
 abbrev pub OneLaneGivesMoment : Type 0
 OneLaneGivesMoment = (lanes other : ℕ) (history : List Entry) (key : KeyParts) (asked : ℕ) →
-    AreOneLane lanes key history → AreOneLane other key history → moment_of lanes history key asked ≡ moment_of other history key asked
+    AreOneLane lanes key history → AreOneLane other key history →
+    moment_of lanes history key asked ≡ moment_of other history key asked
 
 -- and so is the answer
-abbrev pub OneLaneGivesReply : Type 0
-OneLaneGivesReply = (lanes other cap : ℕ) (history : List Entry) (ask : Ask) →
-    AreOneLane lanes ask.key history → AreOneLane other ask.key history → reply_of lanes cap history ask ≡ reply_of other cap history ask
+abbrev pub OneLaneGivesAnswer : Type 0
+OneLaneGivesAnswer = (lanes other cap : ℕ) (history : List Entry) (ask : Ask) →
+    AreOneLane lanes ask.key history → AreOneLane other ask.key history →
+    answer_of lanes cap history ask ≡ answer_of other cap history ask
 
 -- a lane taken by itself, as the only one, gives the moment of the whole
 abbrev pub LaneStandsAloneInMoment : Type 0
@@ -51,20 +53,34 @@ LaneStandsAloneInMoment = (lanes : ℕ) (history : List Entry) (key : KeyParts) 
 -- and the answer of the whole
 abbrev pub LaneStandsAlone : Type 0
 LaneStandsAlone = (lanes cap : ℕ) (history : List Entry) (ask : Ask) →
-    reply_of 1 cap (entries_in lanes (lane_of_key lanes ask.key) history) ask ≡ reply_of lanes cap history ask
+    answer_of 1 cap (entries_in lanes (lane_of_key lanes ask.key) history) ask ≡ answer_of lanes cap history ask
+
+-- where lists differ in callers alone, a step's moment is the same
+abbrev pub AnyCallersGiveMoment : Type 0
+AnyCallersGiveMoment = (lanes : ℕ) (a b : List Entry) (key : KeyParts) (asked : ℕ) →
+    AreAlike a b → moment_of lanes a key asked ≡ moment_of lanes b key asked
+
+-- and so is its answer
+abbrev pub AnyCallersGiveAnswer : Type 0
+AnyCallersGiveAnswer = (lanes cap : ℕ) (a b : List Entry) (ask : Ask) →
+    AreAlike a b → answer_of lanes cap a ask ≡ answer_of lanes cap b ask
 
 -- no step is legal, one more that follows keeps a history legal, and so does leaving off its end
 pub record LegalStepByStep : Type 0 where
   pub none : (lanes cap : ℕ) → IsLegal lanes cap []
-  pub more : (lanes cap : ℕ) (history : List Entry) (entry : Entry) → IsLegal lanes cap history → Follows lanes cap history entry → IsLegal lanes cap (history ++ entry ∷ [])
-  pub front : (lanes cap : ℕ) (history : List Entry) (n : ℕ) → IsLegal lanes cap history → IsLegal lanes cap (take n history)
+  pub more : (lanes cap : ℕ) (history : List Entry) (entry : Entry) → IsLegal lanes cap history →
+      Follows lanes cap history entry → IsLegal lanes cap (history ++ entry ∷ [])
+  pub front : (lanes cap : ℕ) (history : List Entry) (n : ℕ) → IsLegal lanes cap history →
+      IsLegal lanes cap (take n history)
 
 -- on a legal history no more of a key counts at a further step's moment than its threshold
 abbrev pub CountedStaysWithin : Type 0
-CountedStaysWithin = (lanes cap : ℕ) (history : List Entry) → IsLegal lanes cap history → (key : KeyParts) (asked : ℕ) →
+CountedStaysWithin = (lanes cap : ℕ) (history : List Entry) → IsLegal lanes cap history →
+    (key : KeyParts) (asked : ℕ) →
     counted_of key (moment_of lanes history key asked) history ≤ key.threshold
 
 -- and no more keys of a lane are live than it has room for
 abbrev pub LiveStaysWithin : Type 0
-LiveStaysWithin = (lanes cap : ℕ) (history : List Entry) → IsLegal lanes cap history → (key : KeyParts) (asked : ℕ) →
+LiveStaysWithin = (lanes cap : ℕ) (history : List Entry) → IsLegal lanes cap history →
+    (key : KeyParts) (asked : ℕ) →
     live_count lanes (lane_of_key lanes key) (moment_of lanes history key asked) history ≤ cap

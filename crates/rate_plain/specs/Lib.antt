@@ -2,7 +2,9 @@ pub mod Hash
 pub mod KeyParts
 pub mod Keys
 pub mod Window
-pub mod Alive
+pub mod LiveSteps
 pub mod History
+pub mod Step
 pub mod Plain
 pub mod Laws
+pub mod Worked

@@ -52,7 +52,8 @@ counted_of key at history = sum_by weight_of (filter (is_counted at) (entries_of
 
 -- until when a key is held at a moment, if it is: the greatest end above the moment that one of its steps was told
 abbrev pub held_until : KeyParts → ℕ → List Entry → Option ℕ
-held_until key at history = reduce max (filter (nat_lt at) (filter_map (λ entry. end_of entry.answer) (entries_of key history)))
+held_until key at history =
+    reduce max (filter (nat_lt at) (filter_map (λ entry. end_of entry.answer) (entries_of key history)))
 
 -- something of the key is counted, or it is held
 abbrev pub is_live : KeyParts → ℕ → List Entry → Bool
@@ -61,7 +62,8 @@ is_live key at history = nat_lt 0 (counted_of key at history) || is_some (held_u
 -- how many keys of a lane are live at a moment
 abbrev pub live_count : ℕ → ℕ → ℕ → List Entry → ℕ
 live_count lanes lane at history =
-    distinct_count same_key (filter (λ key. is_live key at history) (map (λ entry. entry.key) (entries_in lanes lane history)))
+    distinct_count same_key
+    (filter (λ key. is_live key at history) (map (λ entry. entry.key) (entries_in lanes lane history)))
 
 -- the lane has no room for this key: it isn't live, and as many as may be are
 abbrev pub is_shut_out : ℕ → ℕ → List Entry → KeyParts → ℕ → Bool
@@ -83,5 +85,5 @@ answer_at lanes cap history ask at =
     Pass)))
 
 -- the answer to an ask, of so many lanes with room for so many keys each
-abbrev pub reply_of : ℕ → ℕ → List Entry → Ask → Answer
-reply_of lanes cap history ask = answer_at lanes cap history ask (moment_of lanes history ask.key ask.asked)
+abbrev pub answer_of : ℕ → ℕ → List Entry → Ask → Answer
+answer_of lanes cap history ask = answer_at lanes cap history ask (moment_of lanes history ask.key ask.asked)

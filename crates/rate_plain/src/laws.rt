@@ -1,6 +1,8 @@
 //! What holds of keys, of the window rule and of every legal history. Each law is a clause; the bodies are empty.
 
-ghost use Rattle.rate_plain.specs.Laws.{KeysAreApart, KeysAreTold, LaneGivesMoment, LaneGivesReply, OneLaneGivesMoment, OneLaneGivesReply, LaneStandsAloneInMoment, LaneStandsAlone, LegalStepByStep, CountedStaysWithin, LiveStaysWithin};
+ghost use Rattle.rate_plain.specs.Laws.{KeysAreApart, KeysAreTold, LaneGivesMoment, LaneGivesAnswer, OneLaneGivesMoment, OneLaneGivesAnswer};
+ghost use Rattle.rate_plain.specs.Laws.{LaneStandsAloneInMoment, LaneStandsAlone, AnyCallersGiveMoment, AnyCallersGiveAnswer};
+ghost use Rattle.rate_plain.specs.Laws.{LegalStepByStep, CountedStaysWithin, LiveStaysWithin};
 
 /// Different keys have different bytes, and the test on keys tells them apart.
 pub fn keys_are_apart()
@@ -11,19 +13,25 @@ pub fn keys_are_apart()
 /// A step is told by its own lane alone.
 pub fn lane_decides()
     ensures moment { LaneGivesMoment }
-    ensures reply { LaneGivesReply }
+    ensures answer { LaneGivesAnswer }
 {}
 
 /// Where all is of one lane, how many lanes there are changes nothing.
 pub fn one_lane_is_any()
     ensures moment { OneLaneGivesMoment }
-    ensures reply { OneLaneGivesReply }
+    ensures answer { OneLaneGivesAnswer }
 {}
 
 /// A lane may be kept by itself, as if it were the only one.
 pub fn lane_stands_alone()
     ensures moment { LaneStandsAloneInMoment }
-    ensures reply { LaneStandsAlone }
+    ensures answer { LaneStandsAlone }
+{}
+
+/// Who took the steps changes neither moments nor answers.
+pub fn callers_decide_nothing()
+    ensures moment { AnyCallersGiveMoment }
+    ensures answer { AnyCallersGiveAnswer }
 {}
 
 /// A legal history grows step by step, and its beginnings are legal.

@@ -1,6 +1,5 @@
-ghost use Rattle.std.specs.Prelude.{◌≡◌, ◌^◌, ◌↔◌, ℕ, List, [], ◌∷◌, ◌++◌, length, MatchResult, IsErrOf};
-ghost use Rattle.rate_plain.specs.Window.{reply_of};
-ghost use Rattle.rate_plain.specs.History.{entry_of};
+ghost use Rattle.std.specs.Prelude.{◌≡◌, ◌^◌, ◌↔◌, ℕ, List, length, IsErrOf};
+ghost use Rattle.rate_plain.specs.Step.{WhereStands, TakesStep};
 ghost use Rattle.rate_plain.specs.declared.entry.Entry.{Entry};
 
 use crate::entry::{Answer, Ask};
@@ -14,10 +13,10 @@ pub trait Tally {
 
     /// Answers by the window rule, and counts the step. A refusal changes nothing.
     fn step(&mut self, alloc: Global, caller: u32, ask: &Ask) -> Result<Answer, StepFault>
-        ensures answers { (lanes cap : ℕ) (history : List Entry) → stands self.old lanes cap history → MatchResult result (λ answer. (answer ≡ reply_of lanes cap history ask.now) × stands self.new lanes cap (history ++ entry_of lanes cap history caller ask.now ∷ [])) (λ _. stands self.new lanes cap history) }
-        ensures spent { (lanes cap : ℕ) (history : List Entry) → stands self.old lanes cap history → IsErrOf result StepFault.Spent ↔ (length history ≡ 2 ^ 50) };
+        ensures answers { WhereStands (stands self.old) (TakesStep (stands self.new) caller ask.now result) }
+        ensures spent { WhereStands (stands self.old) (λ _ _ h. IsErrOf result StepFault.Spent ↔ (length h ≡ 2 ^ 50)) };
 
     /// How many steps were taken. Takes no memory.
     fn length(&self) -> u64
-        ensures { (lanes cap : ℕ) (history : List Entry) → stands self.now lanes cap history → result ≡ length history };
+        ensures { WhereStands (stands self.now) (λ _ _ history. result ≡ length history) };
 }

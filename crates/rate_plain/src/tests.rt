@@ -1,6 +1,7 @@
-ghost use Rattle.std.specs.Prelude.{◌≡◌, ◌≤◌, [], ◌∷◌, codes};
+ghost use Rattle.std.specs.Prelude.{◌≡◌, ◌≤◌};
 ghost use Rattle.rate_plain.specs.KeyParts.{HasRanges};
 ghost use Rattle.rate_plain.specs.Keys.{key_bytes};
+ghost use Rattle.rate_plain.specs.Worked.{worked_key, worked_bytes};
 
 use crate::{Answer, Ask, Key, PlainCounter, StepFault, Tally, fnv1a64, lane_of};
 use edge_base::{Memory, Moment, RuleName, Text};
@@ -80,7 +81,7 @@ fn hashes_are_those_of_the_vectors(rt: HostRuntime) {
 
 /// The bytes of a key of the rule `rl/r1`, 2 in 10 s with a timeout of 60 s, as they were worked out by hand.
 fn bytes_are_as_worked_out()
-    ensures { key_bytes (record { rule = record { set_id = codes "rl"; rule = codes "r1" }; period = 10000; threshold = 2; timeout = 60000; values = 3 ∷ 0 ∷ 0 ∷ 0 ∷ 4 ∷ 10 ∷ 0 ∷ 0 ∷ 1 ∷ [] }) ≡ 0x72 ∷ 0x6c ∷ 0 ∷ 0x72 ∷ 0x31 ∷ 0 ∷ 0 ∷ 0 ∷ 0 ∷ 0 ∷ 0 ∷ 0 ∷ 0x27 ∷ 0x10 ∷ 0 ∷ 0 ∷ 0 ∷ 0 ∷ 0 ∷ 0 ∷ 0 ∷ 2 ∷ 0 ∷ 0 ∷ 0 ∷ 0 ∷ 0 ∷ 0 ∷ 0xea ∷ 0x60 ∷ 3 ∷ 0 ∷ 0 ∷ 0 ∷ 4 ∷ 10 ∷ 0 ∷ 0 ∷ 1 ∷ [] }
+    ensures { key_bytes worked_key ≡ worked_bytes }
 {}
 
 /// What is counted may be handed to other threads.

@@ -1,7 +1,8 @@
-ghost use Rattle.std.specs.Prelude.{◌≡◌, ◌≤◌, ◌^◌, ◌&&◌, ◌||◌, ◌==◌};
+ghost use Rattle.std.specs.Prelude.{◌≡◌, ◌≤◌, ◌^◌, ◌&&◌, ◌||◌, ◌==◌, nat_le};
+ghost use Rattle.std.specs.List.{count_by};
 ghost use Rattle.rate_plain.specs.Keys.{same_key, lane_of_key};
 ghost use Rattle.rate_plain.specs.Window.{moment_of, is_counted, counted_of, held_until, live_count, answer_at};
-ghost use Rattle.rate_plain.specs.Alive.{end_above, later_of, is_alive, has_alive};
+ghost use Rattle.rate_plain.specs.LiveSteps.{end_above, later_of, makes_live, is_made_live, makes_live_in};
 
 use crate::entry::{Answer, Ask, Entry};
 use crate::key::{Key, lane_of};
@@ -79,19 +80,19 @@ fn counted(entries: &[Entry], key: &Key, at: u64) -> u64
 }
 
 /// Whether the step by itself makes its key live.
-fn is_alive(entry: &Entry, at: u64) -> bool
-    ensures { result ≡ is_alive at entry.now }
+fn makes_live(entry: &Entry, at: u64) -> bool
+    ensures { result ≡ makes_live at entry.now }
 {
     is_counted(entry, at) || end_above(entry.answer, at).is_some()
 }
 
 /// Whether one of these steps makes this key live.
-fn has_alive(entries: &[Entry], key: &Key, at: u64) -> bool
-    ensures { result ≡ has_alive key.now at entries.now }
+fn is_made_live(entries: &[Entry], key: &Key, at: u64) -> bool
+    ensures { result ≡ is_made_live key.now at entries.now }
 {
     entries
         .iter()
-        .any(|entry| is_alive(entry, at) && *key == entry.key)
+        .any(|entry| makes_live(entry, at) && *key == entry.key)
 }
 
 /// How many keys of the lane are live: each is counted at the last step that makes it so.
@@ -101,14 +102,35 @@ fn live_keys(entries: &[Entry], lanes: u32, lane: u32, at: u64) -> usize
 {
     let mut live = 0;
     for (place, entry) in entries.iter().enumerate() {
-        if is_alive(entry, at)
+        if makes_live(entry, at)
             && lane_of(&entry.key, lanes) == lane
-            && !has_alive(&entries[place + 1..], &entry.key, at)
+            && !is_made_live(&entries[place + 1..], &entry.key, at)
         {
             live += 1;
         }
     }
     live
+}
+
+/// How many steps of the lane make their keys live. It has no more live keys than that.
+fn live_steps(entries: &[Entry], lanes: u32, lane: u32, at: u64) -> usize
+    requires { 1 ≤ lanes }
+    ensures { result ≡ count_by (makes_live_in lanes lane at) entries.now }
+{
+    entries
+        .iter()
+        .filter(|entry| makes_live(entry, at) && lane_of(&entry.key, lanes) == lane)
+        .count()
+}
+
+/// Whether as many keys of the lane are live as it has room for.
+/// Its keys are told apart, in time that grows with their square, only where so many may be live.
+fn is_full(entries: &[Entry], lanes: u32, cap: u32, lane: u32, at: u64) -> bool
+    requires { 1 ≤ lanes }
+    ensures { result ≡ nat_le cap (live_count lanes lane at entries.now) }
+{
+    let cap = cap as usize;
+    cap <= live_steps(entries, lanes, lane, at) && cap <= live_keys(entries, lanes, lane, at)
 }
 
 /// The answer to an ask at its moment. Live keys are counted only where the asked key isn't live.
@@ -125,7 +147,7 @@ pub fn answer(entries: &[Entry], lanes: u32, cap: u32, ask: &Ask, at: Moment) ->
         return Answer::Pass;
     }
     let counted = counted(entries, key, now);
-    if counted == 0 && live_keys(entries, lanes, lane_of(key, lanes), now) >= cap as usize {
+    if counted == 0 && is_full(entries, lanes, cap, lane_of(key, lanes), now) {
         return Answer::Full;
     }
     if counted == key.threshold {

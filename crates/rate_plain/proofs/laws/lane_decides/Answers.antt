@@ -1,5 +1,5 @@
-use Rattle.rate_plain.proofs.LaneLemmas.{moment_of-lane, reply_of-lane}
+use Rattle.rate_plain.proofs.LaneLemmas.{moment_of-lane, answer_of-lane}
 use Rattle.rate_plain.proofs.laws.lane_decides.Goals as goal
 
 pub returns : goal.returns
-returns c = record { moment = moment_of-lane; reply = reply_of-lane }
+returns c = record { moment = moment_of-lane; answer = answer_of-lane }

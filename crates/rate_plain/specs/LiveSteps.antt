@@ -21,17 +21,18 @@ later_of None end = end
 later_of (Some so_far) end = max so_far end
 
 -- the step counts, or told an end above the moment
-abbrev pub is_alive : ℕ → Entry → Bool
-is_alive at entry = is_counted at entry || is_some (end_above at entry.answer)
+abbrev pub makes_live : ℕ → Entry → Bool
+makes_live at entry = is_counted at entry || is_some (end_above at entry.answer)
 
 -- one of the steps makes the key live
-abbrev pub has_alive : KeyParts → ℕ → List Entry → Bool
-has_alive key at entries = list_any (λ entry. is_alive at entry && same_key key entry.key) entries
+abbrev pub is_made_live : KeyParts → ℕ → List Entry → Bool
+is_made_live key at entries = list_any (λ entry. makes_live at entry && same_key key entry.key) entries
 
 -- the step makes its key live, and the key has this lane
-abbrev pub is_alive_in : ℕ → ℕ → ℕ → Entry → Bool
-is_alive_in lanes lane at entry = is_alive at entry && lane_of_key lanes entry.key == lane
+abbrev pub makes_live_in : ℕ → ℕ → ℕ → Entry → Bool
+makes_live_in lanes lane at entry = makes_live at entry && lane_of_key lanes entry.key == lane
 
 -- how many keys the steps of a lane make live
-abbrev pub alive_count : ℕ → ℕ → ℕ → List Entry → ℕ
-alive_count lanes lane at entries = distinct_count same_key (map (λ entry. entry.key) (filter (is_alive_in lanes lane at) entries))
+abbrev pub made_live_count : ℕ → ℕ → ℕ → List Entry → ℕ
+made_live_count lanes lane at entries =
+    distinct_count same_key (map (λ entry. entry.key) (filter (makes_live_in lanes lane at) entries))
