@@ -6,27 +6,26 @@ use Rattle.std.specs.Int.{w32, w128, to_be_bytes, from_be_bytes}
 use Rattle.std.specs.declared.net.ipv4_addr.Ipv4Addr.{Ipv4Addr}
 use Rattle.std.specs.declared.net.ipv6_addr.Ipv6Addr.{Ipv6Addr}
 use Rattle.std.specs.Net.Addr.{ipv4_octets, ipv6_segments, segments_of, octets_of, ipv4_bits, ipv6_bits, IsIpv4OfBits, IsIpv6OfBits}
-use Rattle.std.specs.Net.Text.{ipv4_text, dotted_text, hex_groups_text}
+use Rattle.std.specs.Net.Text.{ipv4_text, hex_groups_text}
 use Rattle.std.specs.Net.Grammar.{IsDotted, IsColonHex, IsIpv4Text, IsIpv6Text}
 use Rattle.std.proofs.NetLemmas.Arrays.{eight_items}
 use Rattle.std.proofs.NetLemmas.Ipv6.{IsDotted-not_colon_hex}
 use Rattle.std.proofs.NetLemmas.Texts.{AllSegments, IsColonHex-hex_groups_text}
 use Rattle.std.proofs.NetLemmas.Theorems.{IsIpv4Text_unique, IsIpv6Text_unique}
-use Rattle.edge_base.specs.declared.address.Addr.{Addr}
 use Rattle.edge_base.specs.declared.address.Addr.TheVariants as addr
-use Rattle.edge_base.specs.Address.{number_of, IsAddrText, AddressIsUnique, groups_of, groups_text, addr_text}
+use Rattle.edge_base.specs.Address.{number_in_base, IsAddrText, AddressIsUnique, groups_of, groups_text, addr_text}
 
-number_of-four : (a b c d : ℕ) → from_be_bytes w32 (a ∷ b ∷ c ∷ d ∷ []) ≡ number_of 256 (a ∷ b ∷ c ∷ d ∷ [])
-number_of-four a b c d = omega arith
+number_in_base-four : (a b c d : ℕ) → from_be_bytes w32 (a ∷ b ∷ c ∷ d ∷ []) ≡ number_in_base 256 (a ∷ b ∷ c ∷ d ∷ [])
+number_in_base-four a b c d = omega arith
 
 -- a V4 text stands for the number of std's address
 pub IsAddrText-ipv4 : (text : List ℕ) (a : Ipv4Addr) → IsIpv4Text text a → IsAddrText text (addr.V4 (ipv4_bits a))
 unfolding ipv4_bits
 IsAddrText-ipv4 text a h =
-    (ipv4_octets a, h, rw h.value (number_of-four h.a h.b h.c h.d))
+    (ipv4_octets a, h, rw h.value (number_in_base-four h.a h.b h.c h.d))
 
-number_of-eight : (a b c d e f g h : ℕ) → from_be_bytes w128 (octets_of (a ∷ b ∷ c ∷ d ∷ e ∷ f ∷ g ∷ h ∷ [])) ≡ number_of 65536 (a ∷ b ∷ c ∷ d ∷ e ∷ f ∷ g ∷ h ∷ [])
-number_of-eight a b c d e f g h = omega arith
+number_in_base-eight : (a b c d e f g h : ℕ) → from_be_bytes w128 (octets_of (a ∷ b ∷ c ∷ d ∷ e ∷ f ∷ g ∷ h ∷ [])) ≡ number_in_base 65536 (a ∷ b ∷ c ∷ d ∷ e ∷ f ∷ g ∷ h ∷ [])
+number_in_base-eight a b c d e f g h = omega arith
 
 length-filled : (head tail : List ℕ) (gap : ℕ) → length (head ++ replicate gap 0 ++ tail) ≡ length head + gap + length tail
 length-filled head tail gap = simp (length-append, length-replicate)
@@ -44,17 +43,17 @@ unfolding ipv6_bits
 IsAddrText-ipv6 text a h =
     let g = ipv6_segments a in
     let items = eight_items g (length-groups text g h) in
-    (g, h, subst (λ x. from_be_bytes w128 (octets_of x) ≡ number_of 65536 x) (sym items) (number_of-eight (get_or g 0 0) (get_or g 1 0) (get_or g 2 0) (get_or g 3 0) (get_or g 4 0) (get_or g 5 0) (get_or g 6 0) (get_or g 7 0)))
+    (g, h, subst (λ x. from_be_bytes w128 (octets_of x) ≡ number_in_base 65536 x) (sym items) (number_in_base-eight (get_or g 0 0) (get_or g 1 0) (get_or g 2 0) (get_or g 3 0) (get_or g 4 0) (get_or g 5 0) (get_or g 6 0) (get_or g 7 0)))
 
 pub IsAddrText-unique : AddressIsUnique
 IsAddrText-unique text (addr.V4 m) (addr.V4 n) h k =
     let same = IsIpv4Text_unique text (record { octets = h.0 }) (record { octets = k.0 }) h.1 k.1 in
-    ap addr.V4 (h.2 ∙ ap (λ a. number_of 256 (ipv4_octets a)) same ∙ sym k.2)
+    ap addr.V4 (h.2 ∙ ap (λ a. number_in_base 256 (ipv4_octets a)) same ∙ sym k.2)
 IsAddrText-unique text (addr.V4 m) (addr.V6 n) h k = absurd (IsDotted-not_colon_hex text h.0 k.0 h.1 k.1)
 IsAddrText-unique text (addr.V6 m) (addr.V4 n) h k = absurd (IsDotted-not_colon_hex text k.0 h.0 k.1 h.1)
 IsAddrText-unique text (addr.V6 m) (addr.V6 n) h k =
     let same = IsIpv6Text_unique text (record { segments = h.0 }) (record { segments = k.0 }) h.1 k.1 in
-    ap addr.V6 (h.2 ∙ ap (λ a. number_of 65536 (ipv6_segments a)) same ∙ sym k.2)
+    ap addr.V6 (h.2 ∙ ap (λ a. number_in_base 65536 (ipv6_segments a)) same ∙ sym k.2)
 
 -- what std writes of the V4 address of a number
 pub ipv4_text-number : (n : ℕ) (a : Ipv4Addr) → IsIpv4OfBits a n → ipv4_text (ipv4_octets a) ≡ addr_text (addr.V4 n)
@@ -115,9 +114,9 @@ up n low high e =
     let down : n / high ≡ m / 65536 = ap (λ x. n / x) e ∙ sym (div-div-eq-div-mul n low 65536) in
     rw down (omega arith)
 
-number_of-groups_of : (n : ℕ) → n < 2 ^ 128 → n ≡ number_of 65536 (groups_of n)
+number_in_base-groups_of : (n : ℕ) → n < 2 ^ 128 → n ≡ number_in_base 65536 (groups_of n)
 unfolding groups_of
-number_of-groups_of n small =
+number_in_base-groups_of n small =
     let first : n / 2 ^ 112 < 65536 = omega arith in
     let a = up n (2 ^ 96) (2 ^ 112) refl in
     let b = up n (2 ^ 80) (2 ^ 96) refl in
@@ -146,4 +145,4 @@ pub IsAddrText-printed_v6 : (n : ℕ) → n < 2 ^ 128 → IsAddrText (addr_text 
 unfolding hex_groups_text groups_text
 IsAddrText-printed_v6 n small =
     let eight : length (groups_of n) ≡ 8 = unfold groups_of in refl in
-    (groups_of n, IsColonHex-hex_groups_text (groups_of n) eight (AllSegments-groups_of n), number_of-groups_of n small)
+    (groups_of n, IsColonHex-hex_groups_text (groups_of n) eight (AllSegments-groups_of n), number_in_base-groups_of n small)

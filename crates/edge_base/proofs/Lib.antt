@@ -1,2 +1,4 @@
 pub mod AddressLemmas
 pub mod EscapedLemmas
+pub mod FoundLemmas
+pub mod FrontLemmas

@@ -1,5 +1,5 @@
 -- Which texts stand for which addresses, and how an address is printed.
-use Rattle.std.specs.Prelude.{◌≡◌, ℕ, ◌+◌, ◌*◌, ◌/◌, ◌%◌, ◌^◌, ◌<◌, List, [], ◌∷◌}
+use Rattle.std.specs.Prelude.{◌≡◌, ℕ, ◌+◌, ◌*◌, ◌/◌, ◌%◌, ◌^◌, List, [], ◌∷◌}
 use Rattle.std.specs.List.{fold}
 use Rattle.std.specs.Net.Grammar.{IsDotted, IsColonHex}
 use Rattle.std.specs.Net.Text.{dotted_text, compressed_text, longest_zero_run}
@@ -7,15 +7,15 @@ use Rattle.edge_base.specs.declared.address.Addr.{Addr}
 use Rattle.edge_base.specs.declared.address.Addr.TheVariants as addr
 
 -- the number that digits write in a base, the highest digit first
-abbrev pub number_of : ℕ → List ℕ → ℕ
-number_of base digits = fold (λ number digit. number * base + digit) 0 digits
+abbrev pub number_in_base : ℕ → List ℕ → ℕ
+number_in_base base digits = fold (λ number digit. number * base + digit) 0 digits
 
 -- the text stands for the address: as V4 four decimal numbers below 256, without leading zeros and with dots
 -- between them; as V6 eight groups of one to four hexadecimal digits with colons between them, where `::` may
 -- stand for one zero group or more, and a V4 text for the last two
 abbrev pub IsAddrText : List ℕ → Addr → Type 0
-IsAddrText text (addr.V4 number) = (octets : List ℕ) × IsDotted text octets × (number ≡ number_of 256 octets)
-IsAddrText text (addr.V6 number) = (groups : List ℕ) × IsColonHex text groups × (number ≡ number_of 65536 groups)
+IsAddrText text (addr.V4 number) = (octets : List ℕ) × IsDotted text octets × (number ≡ number_in_base 256 octets)
+IsAddrText text (addr.V6 number) = (groups : List ℕ) × IsColonHex text groups × (number ≡ number_in_base 65536 groups)
 
 -- a text stands for at most one address
 abbrev pub AddressIsUnique : Type 0

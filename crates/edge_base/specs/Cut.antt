@@ -63,3 +63,7 @@ abbrev pub FaultsAreUnique : Type 0
 FaultsAreUnique =
     (text : List ℕ) (at : ℕ) → IsFirstFault text at
     → ((tokens : List Token) → ¬ (IsCut text tokens)) × ((other : ℕ) → IsFirstFault text other → at ≡ other)
+
+-- a text without a cut has a place of fault
+abbrev pub UncutHaveFaults : Type 0
+UncutHaveFaults = (text : List ℕ) → ((tokens : List Token) → ¬ (IsCut text tokens)) → (at : ℕ) × IsFirstFault text at

@@ -1,6 +1,6 @@
 -- The grammar of expressions: which terminals derive which tree, a line of the grammar a case; and where terminals
 -- that derive none go wrong.
-use Rattle.std.specs.Prelude.{◌≡◌, ℕ, ◌+◌, ◌<◌, ◌≤◌, pos, ℤ, Bool, true, false, List, [], ◌∷◌, ◌++◌, length, take}
+use Rattle.std.specs.Prelude.{◌≡◌, ℕ, ◌+◌, ◌<◌, ◌≤◌, pos, ℤ, true, false, List, [], ◌∷◌, ◌++◌, length, take}
 use Rattle.edge_base.specs.declared.address.Addr.{Addr}
 use Rattle.edge_base.specs.declared.expression.Lit.{Lit}
 use Rattle.edge_base.specs.declared.expression.Lit.TheVariants as lit
@@ -118,3 +118,7 @@ DeriveAtMostOne = (ts : List Terminal) (d e : Expr) → Derives ts d → Derives
 -- terminals go wrong at no more than one place
 abbrev pub HaveOneFault : Type 0
 HaveOneFault = (ts : List Terminal) (place other : ℕ) → IsFault ts place → IsFault ts other → place ≡ other
+
+-- terminals that derive no tree have a place of fault
+abbrev pub UnderivedHaveFaults : Type 0
+UnderivedHaveFaults = (ts : List Terminal) → ((e : Expr) → ¬ (Derives ts e)) → (place : ℕ) × IsFault ts place

@@ -1,7 +1,9 @@
 pub mod Address
+pub mod Bytes
 pub mod Cut
 pub mod Grammar
 pub mod Nesting
 pub mod Printed
+pub mod Spellings
 pub mod Terminal
 pub mod Token

@@ -1,4 +1,4 @@
-ghost use Rattle.std.specs.Prelude.{◌≡◌, IfOk, MatchOption};
+ghost use Rattle.std.specs.Prelude.{◌≡◌, Ok, IfOk, MatchOption};
 ghost use Rattle.std.specs.String.{string_bytes};
 ghost use Rattle.edge_base.specs.Address.{IsAddrText, AddressIsUnique, addr_text};
 
@@ -15,8 +15,9 @@ pub enum Addr {
 }
 
 impl Addr {
+    /// Takes no memory.
     pub fn copy(&self) -> Result<Addr, Memory>
-        ensures { IfOk result (λ addr. addr ≡ self.now) }
+        ensures { result ≡ Ok self.now }
     {
         Ok(*self)
     }

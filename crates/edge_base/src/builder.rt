@@ -1,5 +1,6 @@
 ghost use Rattle.std.specs.Prelude.{◌≡◌, ◌+◌, ◌<◌, [], ◌∷◌, ◌++◌, length, OnOk, OnErr};
 ghost use Rattle.std.specs.Prelude.{decimal};
+ghost use Rattle.std.specs.Io.{StartsWith};
 ghost use Rattle.edge_base.specs.Printed.{is_printed_byte, hex_digit, escaped_byte, escaped};
 
 use crate::refusal::Memory;
@@ -34,7 +35,7 @@ fn hex_digit(n: u8) -> u8
     requires { n < 16 }
     ensures { result ≡ hex_digit n }
 {
-    if n < 10 { b'0' + n } else { 55 + n }
+    if n < 10 { b'0' + n } else { b'A' + (n - 10) }
 }
 
 impl TextBuilder {
@@ -56,17 +57,19 @@ impl TextBuilder {
         Ok(())
     }
 
-    /// A number in decimal.
+    /// A number in decimal; a refusal adds nothing.
     pub fn push_number(&mut self, n: u64) -> Result<(), Memory>
-        ensures { OnOk result (self.new ≡ self.old ++ decimal n) }
+        ensures ok { OnOk result (self.new ≡ self.old ++ decimal n) }
+        ensures err { OnErr result (self.new ≡ self.old) }
     {
         let mut digits = Buffer::new();
         self.push(digits.format(n).as_bytes())
     }
 
-    /// One byte, as itself or as `%` and two digits.
+    /// One byte, as itself or as `%` and two digits; a refusal adds nothing.
     fn push_escaped_byte(&mut self, byte: u8) -> Result<(), Memory>
-        ensures { OnOk result (self.new ≡ self.old ++ escaped_byte byte) }
+        ensures ok { OnOk result (self.new ≡ self.old ++ escaped_byte byte) }
+        ensures err { OnErr result (self.new ≡ self.old) }
     {
         if is_printed_byte(byte) {
             self.push(&[byte])
@@ -75,9 +78,11 @@ impl TextBuilder {
         }
     }
 
-    /// A text in which blanks, control bytes, bytes from 0x7F on, `%` and `,` are escaped.
+    /// A text in which blanks, control bytes, bytes from 0x7F on, `%` and `,` are escaped. A refusal may leave a front
+    /// of it.
     pub fn push_escaped(&mut self, text: &[u8]) -> Result<(), Memory>
-        ensures { OnOk result (self.new ≡ self.old ++ escaped text.now) }
+        ensures ok { OnOk result (self.new ≡ self.old ++ escaped text.now) }
+        ensures err { OnErr result (StartsWith self.new self.old) }
     {
         for &byte in text {
             self.push_escaped_byte(byte)?;

@@ -1,4 +1,4 @@
-ghost use Rattle.std.specs.Prelude.{◌≡◌, IfOk};
+ghost use Rattle.std.specs.Prelude.{◌≡◌, Ok, IfOk};
 
 use crate::address::Addr;
 use crate::refusal::Memory;
@@ -89,8 +89,9 @@ impl Lit {
 }
 
 impl Order {
+    /// Takes no memory.
     pub fn copy(&self) -> Result<Order, Memory>
-        ensures { IfOk result (λ order. order ≡ self.now) }
+        ensures { result ≡ Ok self.now }
     {
         Ok(*self)
     }

@@ -1,4 +1,4 @@
-ghost use Rattle.std.specs.Prelude.{◌≡◌, IfOk};
+ghost use Rattle.std.specs.Prelude.{◌≡◌, ◌≤◌, IfOk};
 
 use crate::address::Addr;
 use crate::moment::Moment;
@@ -32,6 +32,7 @@ pub struct Request {
     pub minor: u8,
     pub headers: Headers,
     pub body: Text,
+    ghost within: { minor ≤ 1 },
 }
 
 /// A reply of an origin.

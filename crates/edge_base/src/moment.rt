@@ -1,4 +1,4 @@
-ghost use Rattle.std.specs.Prelude.{◌≡◌, ◌≤◌, ◌^◌, IfOk};
+ghost use Rattle.std.specs.Prelude.{◌≡◌, ◌≤◌, ◌^◌, Ok};
 ghost use Rattle.std.specs.Option.{SomeIff};
 
 use crate::refusal::Memory;
@@ -44,8 +44,9 @@ impl Moment {
         self.milliseconds
     }
 
+    /// Takes no memory.
     pub fn copy(&self) -> Result<Moment, Memory>
-        ensures { IfOk result (λ moment. moment ≡ self.now) }
+        ensures { result ≡ Ok self.now }
     {
         Ok(*self)
     }

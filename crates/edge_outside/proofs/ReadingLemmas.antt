@@ -1,16 +1,17 @@
 -- What a line reader stands for after each of its steps.
 use Rattle.std.proofs.Common.{◌≡◌, ◌≢◌, ◌⊎◌, ⊎_elim, ℕ, ◌+◌, ◌-◌, ◌^◌, ◌<◌, ◌≤◌, Bool, true, false, List, [], ◌∷◌, ◌++◌, length, Option, Some, None, refl, sym, ap, subst, ◌∙◌, arith, append_assoc, append-nil, length-append}
 use Rattle.std.proofs.Common.{if◌then◌else◌, option_to_list}
+use Rattle.std.proofs.lemmas.List.{nil_from_length}
 use Rattle.std.specs.Io.KnownBytes.{Consumes, IsAtEnd}
 use Rattle.edge_outside.specs.Lines.{lines_of, NoNewline}
 use Rattle.edge_outside.specs.Held.{Held, Cut}
-use Rattle.edge_outside.specs.Reading.{line_of, ahead_of, IsPast, Stands, StepOf, Took, weight}
+use Rattle.edge_outside.specs.Reading.{line_of, ahead_of, IsPast, Stands, StepOf, Took, IsLooked, weight}
 use Rattle.edge_outside.specs.declared.line_reader.LineReader.{LineReader}
 use Rattle.edge_outside.specs.declared.line_reader.LineStep.TheVariants as step
 use Rattle.edge_outside.proofs.LinesLemmas.{NoNewline-append, NoNewline-nil, NoNewline-one, lines_of-line, lines_of-last}
 
 -- what was read past has no newline
-NoNewline-past : (long : Bool) (past : List ℕ) → IsPast long past → NoNewline past
+pub NoNewline-past : (long : Bool) (past : List ℕ) → IsPast long past → NoNewline past
 NoNewline-past false past is_past = subst NoNewline (sym is_past) NoNewline-nil
 NoNewline-past true past is_past = is_past.1
 
@@ -161,3 +162,16 @@ pub bare : (buffer : Held) (aside : Option ℕ) (line : List ℕ) → buffer ≡
     → buffer.begun ++ buffer.rest ++ option_to_list aside ≡ []
 bare buffer aside line is is_aside =
     ap (λ (h : Held). h.begun ++ h.rest ++ option_to_list aside) is ∙ ap (λ l. option_to_list l) is_aside
+
+-- where nothing more was taken, all that is ahead of a reader that has looked at it is the begun line
+pub ahead-in_line : (before now : LineReader) (bytes : List ℕ) → IsLooked before → NoNewline before.buffer.begun → Took before now bytes
+    → now.taken ≡ before.taken → NoNewline (ahead_of now)
+ahead-in_line before now bytes looked none took same =
+    let empty : bytes ≡ [] = nil_from_length bytes (omega (arith, took.is_taken, same)) in
+    let begun = before.buffer.begun in
+    let bare : ahead_of before ≡ begun =
+    ap (λ xs. begun ++ xs ++ option_to_list before.aside) looked.0
+    ∙ ap (λ aside. begun ++ [] ++ option_to_list aside) looked.1
+    ∙ append-nil (begun ++ []) ∙ append-nil begun in
+    let is : ahead_of now ≡ begun = took.is_ahead ∙ ap (λ xs. ahead_of before ++ xs) empty ∙ append-nil (ahead_of before) ∙ bare in
+    subst NoNewline (sym is) none

@@ -1,5 +1,6 @@
 -- The lines of a text of bytes.
 use Rattle.std.specs.Prelude.{◌≢◌, ℕ, ◌<◌, Bool, true, false, ◌==◌, List, [], ◌∷◌, length, slice_index}
+use Rattle.edge_base.specs.Bytes.{newline}
 
 -- a byte in front of these lines: a newline ends an empty line, and any other byte joins the first line
 abbrev pub in_front : Bool → ℕ → List (List ℕ) → List (List ℕ)
@@ -10,8 +11,8 @@ in_front false byte (line ∷ lines) = (byte ∷ line) ∷ lines
 -- the lines of the bytes, without their newlines; the last may lack one, and nothing follows a final newline
 abbrev pub lines_of : List ℕ → List (List ℕ)
 lines_of [] = []
-lines_of (byte ∷ bytes) = in_front (byte == 10) byte (lines_of bytes)
+lines_of (byte ∷ bytes) = in_front (byte == newline) byte (lines_of bytes)
 
 -- no byte is a newline
 abbrev pub NoNewline : List ℕ → Type 0
-NoNewline bytes = (k : ℕ) → k < length bytes → slice_index bytes k ≢ 10
+NoNewline bytes = (k : ℕ) → k < length bytes → slice_index bytes k ≢ newline

@@ -1,4 +1,4 @@
-ghost use Rattle.std.specs.Prelude.{◌≡◌, ◌↔◌, [], ◌+◌, ◌-◌, ◌^◌, ◌<◌, ◌≤◌, IsTrue, MatchBool, length, take, slice_range, vec_len, IfOk, OnErr};
+ghost use Rattle.std.specs.Prelude.{◌≡◌, ◌↔◌, [], ◌+◌, ◌-◌, ◌^◌, ◌<◌, ◌≤◌, IsTrue, MatchBool, length, take, slice_range, vec_len, IfOk, OnOk, OnErr};
 ghost use Rattle.std.specs.Io.KnownBytes.{Appends, Consumes, IsAtEnd, Keeps};
 ghost use Rattle.edge_outside.specs.Faults.{Rose};
 ghost use Rattle.edge_outside.specs.Held.{Held, Cut, Looked};
@@ -69,6 +69,7 @@ fn read_behind<S: Source>(
     ensures told { IfOk result (λ count. Appends (S.taken source.old) (S.taken source.new) (slice_range bytes.new at (at + count))) }
     ensures end { IfOk result (λ count. count ≡ 0 → IsAtEnd (S.left source.new)) }
     ensures err { OnErr result (Keeps (S.left source.old) (S.left source.new) × Keeps (S.taken source.old) (S.taken source.new)) }
+    ensures kept { OnOk result (S.faults source.new ≡ S.faults source.old) }
     ensures failed { OnErr result (Rose (S.faults source.old) (S.faults source.new)) }
     ensures later { S.faults source.old ≤ S.faults source.new }
 {
@@ -155,6 +156,7 @@ impl Buffer {
         ensures most { length self.new.rest ≤ most }
         ensures end { IfOk result (λ count. count ≡ 0 → IsAtEnd (S.left source.new)) }
         ensures err { OnErr result (self.new.rest ≡ []) }
+        ensures kept { OnOk result (S.faults source.new ≡ S.faults source.old) }
         ensures failed { OnErr result (Rose (S.faults source.old) (S.faults source.new)) }
         ensures later { S.faults source.old ≤ S.faults source.new }
     {

@@ -38,10 +38,11 @@ pub struct LineReader {
 }
 
 impl LineReader {
-    ghost use Rattle.std.specs.Prelude.{◌≡◌, ◌≢◌, ◌↔◌, ℕ, List, ◌+◌, ◌^◌, ◌<◌, ◌≤◌, ◌⊎◌, true, false, if◌then◌else◌, length, Option, Some, None, IfOk, OnErr, IfSome, IfNone, OnSome};
+    ghost use Rattle.std.specs.Prelude.{◌≡◌, ◌≢◌, ◌↔◌, ℕ, List, ◌+◌, ◌^◌, ◌<◌, ◌≤◌, ◌⊎◌, true, false, if◌then◌else◌, length, Option, Some, None, IfOk, OnOk, OnErr, IfSome, IfNone, OnSome};
     ghost use Rattle.std.specs.Io.KnownBytes.{Appends, Consumes, IsAtEnd};
     ghost use Rattle.edge_outside.specs.Faults.{Rose};
-    ghost use Rattle.edge_outside.specs.Reading.{line_of, Stands, StepOf, Took, IsLooked, weight};
+    ghost use Rattle.edge_outside.specs.Lines.{NoNewline};
+    ghost use Rattle.edge_outside.specs.Reading.{line_of, ahead_of, Stands, StepOf, Took, IsLooked, weight};
 
     /// Takes a buffer of 1 MiB.
     pub fn new(alloc: Global) -> Result<LineReader, Memory>
@@ -85,6 +86,7 @@ impl LineReader {
         ensures none { IfNone result ((left : Option (List ℕ)) (text : List ℕ)
             → Stands self.old left text → Stands self.new left text) }
         ensures looked { IfNone result (IsLooked self.new) }
+        ensures no_newline { IfNone result (NoNewline self.new.buffer.begun) }
         ensures variant { IfSome result (λ step. (step ≡ LineStep.Line) ⊎ (step ≡ LineStep.Long)) }
         ensures taken { self.new.taken ≡ self.old.taken }
         ensures progress { OnSome result (weight self.new < weight self.old) }
@@ -135,6 +137,7 @@ impl LineReader {
             × IfOk result (λ count. length bytes ≡ count) }
         ensures end { IfOk result (λ count. count ≡ 0 → IsAtEnd (S.left source.new) × IsLooked self.new) }
         ensures err { OnErr result (self.new.taken ≡ self.old.taken) }
+        ensures kept { OnOk result (S.faults source.new ≡ S.faults source.old) }
         ensures failed { OnErr result (Rose (S.faults source.old) (S.faults source.new)) }
         ensures later { S.faults source.old ≤ S.faults source.new }
     {
@@ -157,6 +160,7 @@ impl LineReader {
             × IfOk result (λ count. length bytes ≡ count) }
         ensures end { IfOk result (λ count. count ≡ 0 → IsAtEnd (S.left source.new) × IsLooked self.new) }
         ensures err { OnErr result (self.new.taken ≡ self.old.taken) }
+        ensures kept { OnOk result (S.faults source.new ≡ S.faults source.old) }
         ensures failed { OnErr result (Rose (S.faults source.old) (S.faults source.new)) }
         ensures later { S.faults source.old ≤ S.faults source.new }
     {
@@ -173,7 +177,9 @@ impl LineReader {
     pub fn next<S: Source>(&mut self, source: &mut S) -> LineStep
         ensures lines { (text : List ℕ) → Stands self.old (S.left source.old) text
             → StepOf result self.new (S.left source.new) text }
+        ensures kept { result ≢ LineStep.Fault → S.faults source.new ≡ S.faults source.old }
         ensures fault { result ≡ LineStep.Fault → Rose (S.faults source.old) (S.faults source.new) }
+        ensures in_line { result ≡ LineStep.Fault → NoNewline (ahead_of self.new) }
         ensures later { S.faults source.old ≤ S.faults source.new }
         ensures long_input { (result ≡ LineStep.LongInput) ↔ (self.new.taken ≡ 2 ^ 40) }
         ensures taken { (bytes : List ℕ) × Consumes (S.left source.old) (S.left source.new) bytes

@@ -1,4 +1,4 @@
-ghost use Rattle.std.specs.Prelude.{ℕ, ◌<◌, ◌≤◌, length, take, IfOk, OnOk, OnErr};
+ghost use Rattle.std.specs.Prelude.{◌≡◌, ℕ, ◌<◌, ◌≤◌, length, take, IfOk, OnOk, OnErr};
 ghost use Rattle.std.specs.Io.{WritesAtMost};
 ghost use Rattle.std.specs.Io.KnownBytes.{Appends, WriteAppends};
 ghost use Rattle.edge_outside.specs.Faults.{Rose};
@@ -20,6 +20,7 @@ pub trait Sink {
         ensures bound { WritesAtMost result piece.now }
         ensures bytes { WriteAppends (got self.old) (got self.new) result piece.now }
         ensures moves { IfOk result (λ count. 0 < length piece.now → 0 < count) }
+        ensures kept { OnOk result (faults self.new ≡ faults self.old) }
         ensures failed { OnErr result (Rose (faults self.old) (faults self.new)) }
         ensures later { faults self.old ≤ faults self.new };
 }
@@ -29,6 +30,7 @@ pub fn write_all<K: Sink>(sink: &mut K, bytes: &[u8]) -> Result<(), Failed>
     ensures ok { OnOk result (Appends (K.got sink.old) (K.got sink.new) bytes.now) }
     ensures err { OnErr result ((count : ℕ) × (count < length bytes.now)
         × Appends (K.got sink.old) (K.got sink.new) (take count bytes.now)) }
+    ensures kept { OnOk result (K.faults sink.new ≡ K.faults sink.old) }
     ensures failed { OnErr result (Rose (K.faults sink.old) (K.faults sink.new)) }
     ensures later { K.faults sink.old ≤ K.faults sink.new }
 {

@@ -1,4 +1,4 @@
-ghost use Rattle.std.specs.Prelude.{◌≡◌, ◌<◌, ◌≤◌, length, IfOk, OnErr};
+ghost use Rattle.std.specs.Prelude.{◌≡◌, ◌<◌, ◌≤◌, length, IfOk, OnOk, OnErr};
 ghost use Rattle.std.specs.Io.{WritesAtMost};
 ghost use Rattle.std.specs.Io.KnownBytes.{WriteAppends};
 ghost use Rattle.edge_outside.specs.Faults.{Rose};
@@ -35,6 +35,7 @@ fn write_counted<W: Write>(inner: &mut W, faults: &mut u64, piece: &[u8]) -> Res
     ensures bound { WritesAtMost result piece.now }
     ensures bytes { WriteAppends (W.contents inner.old) (W.contents inner.new) result piece.now }
     ensures moves { IfOk result (λ count. 0 < length piece.now → 0 < count) }
+    ensures kept { OnOk result (faults.new ≡ faults.old) }
     ensures failed { OnErr result (Rose faults.old faults.new) }
     ensures later { faults.old ≤ faults.new }
 {

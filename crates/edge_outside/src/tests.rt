@@ -145,6 +145,26 @@ fn adapters_fail_where_their_streams_do(rt: HostRuntime) -> Result<(), Fail> {
     Ok(())
 }
 
+/// Whether the adapter of standard output gets this many bytes, given in one piece, to a writer in memory.
+fn is_written_whole(alloc: Global, len: usize) -> Result<bool, Memory> {
+    let mut bytes = Vec::from_elem(alloc, b'x', len)?;
+    bytes.extend_from_slice(b"yz")?;
+    let mut written = Vec::from_elem(alloc, 0, len + 2)?;
+    let answer = write_all(
+        &mut StdoutSink::new(written.as_mut_slice()),
+        bytes.as_slice(),
+    );
+    Ok(answer == Ok(()) && written == bytes)
+}
+
+#[test]
+fn a_piece_above_65536_bytes_is_written_whole(rt: HostRuntime) -> Result<(), Fail> {
+    for len in [65_534, 65_535, 200_000] {
+        assert!(rt; is_written_whole(rt.alloc(), len)?);
+    }
+    Ok(())
+}
+
 #[test]
 fn adapters_reach_the_standard_streams(rt: HostRuntime) {
     assert_eq!(rt; StdinSource::new(rt.stdin()).read(&mut []), Ok(0));

@@ -1,4 +1,4 @@
-ghost use Rattle.std.specs.Prelude.{◌≡◌, ◌↔◌, ◌⊎◌, [], ◌<◌, ◌≤◌, length, take, Some, Contains, IsErr, IfOk, OnErr};
+ghost use Rattle.std.specs.Prelude.{◌≡◌, ◌↔◌, ◌⊎◌, [], ◌<◌, ◌≤◌, length, take, Some, Contains, IsErr, IfOk, OnOk, OnErr};
 ghost use Rattle.std.specs.Io.{WritesAtMost};
 ghost use Rattle.std.specs.Io.KnownBytes.{WriteAppends};
 ghost use Rattle.edge_outside.specs.Faults.{Rose};
@@ -84,6 +84,7 @@ impl Sink for TextSink {
         ensures bound { WritesAtMost result piece.now }
         ensures bytes { WriteAppends (Some self.old.got) (Some self.new.got) result piece.now }
         ensures moves { IfOk result (λ count. 0 < length piece.now → 0 < count) }
+        ensures kept { OnOk result (self.new.faults ≡ self.old.faults) }
         ensures failed { OnErr result (Rose self.old.faults self.new.faults) }
         ensures later { self.old.faults ≤ self.new.faults }
         ensures fails { IsErr result ↔ (Contains self.old.fail_at self.old.calls ⊎ ((self.old.room ≡ 0) × (0 < length piece.now))) }

@@ -1,6 +1,4 @@
-use Rattle.std.proofs.Common.{◌≡◌, ap, ◌∙◌}
 use Rattle.edge_base.specs.declared.address.Addr.TheVariants as addr
-use Rattle.edge_base.specs.Address.{IsAddrText}
 use Rattle.edge_base.proofs.AddressLemmas.{IsAddrText-ipv4, IsAddrText-ipv6}
 use Rattle.edge_base.proofs.address.parse_addr.Goals as goal
 

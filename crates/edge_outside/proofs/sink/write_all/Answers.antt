@@ -1,4 +1,4 @@
-use Rattle.std.proofs.Common.{arith, length-drop}
+use Rattle.std.proofs.Common.{◌∙◌, arith, length-drop}
 use Rattle.std.proofs.lemmas.List.{take_rest}
 use Rattle.std.proofs.Math.Seq.{take-add}
 use Rattle.std.proofs.KnownBytes.{Appends-trans}
@@ -10,5 +10,5 @@ loop-at-preserved g c =
     let took = rw take_rest at c.in_ok-at.ensures.bytes in record {
       in_range = omega (arith, simp (take_rest, length-drop) at c.in_ok-at.ensures.bound);
       got = rw (take-add c.loop-at.at c.in_ok-at.field-0 bytes) (Appends-trans _ _ _ _ _ c.loop-at.invariant.got took);
-      later = omega (arith, c.loop-at.invariant.later, c.write.ensures.later);
+      kept = c.in_ok-at.ensures.kept ∙ c.loop-at.invariant.kept;
     }

@@ -8,7 +8,7 @@ loop-byte-preserved c =
     let text = c.args.text.now in
     let i = c.loop-byte.byte-index in
     let begun = c.args.self.now in
-    c.in_ok-push_escaped_byte.ensures
+    c.in_ok-push_escaped_byte.ensures.ok
     ∙ ap (λ front. front ++ escaped_byte (get_or text i 0)) c.loop-byte.invariant
     ∙ append_assoc begun (escaped (take i text)) (escaped_byte (get_or text i 0))
     ∙ ap (λ rest. begun ++ rest) (sym (escaped-take_more text i c.loop-byte-test.true))

@@ -25,5 +25,10 @@ pub returns-in-None : goal.returns-in-None
 returns-in-None c =
     let i = c.self.invariant in
     let b = c.self.inside in
+    let nowhere = rw c.deref.ensures.value at c.in-None.ensures in
     subst (λ before. Looked before (held b.bytes.items b.line_from b.line_to b.from b.to b.to)) c.self.view_is
-    (record { is_begun = slice_range-split b.bytes.items b.from b.looked b.to i.3 i.4; is_rest = between_none b.bytes.items b.to })
+    (record {
+      is_begun = slice_range-split b.bytes.items b.from b.looked b.to i.3 i.4;
+      is_rest = between_none b.bytes.items b.to;
+      no_newline = looked-none b.bytes.items b.from b.looked b.to i.3 i.4 i.6 nowhere;
+    })

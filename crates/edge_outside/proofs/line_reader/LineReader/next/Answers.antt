@@ -1,7 +1,7 @@
-use Rattle.std.proofs.Common.{◌≡◌, ℕ, ◌+◌, List, ◌++◌, length, Option, arith, length-append}
+use Rattle.std.proofs.Common.{◌≡◌, ◌∙◌, ℕ, ◌+◌, List, ◌++◌, length, Option, arith, length-append}
 use Rattle.std.specs.Io.KnownBytes.{Appends, Consumes}
 use Rattle.std.proofs.KnownBytes.{Appends-trans, Consumes-trans}
-use Rattle.edge_outside.proofs.ReadingLemmas.{stands-took, weight-took}
+use Rattle.edge_outside.proofs.ReadingLemmas.{stands-took, weight-took, ahead-in_line}
 use Rattle.edge_outside.proofs.line_reader.LineReader.next.Goals as goal
 
 -- bytes were taken twice
@@ -28,6 +28,11 @@ returns-in-Err-clause-taken g c =
     taken-more _ _ _ _ _ _ _ c.reading.self.taken _ c.reading.invariant.taken took.0 took.2 took.3
     (omega (arith, took.1.is_taken, c.look.ensures.taken))
 
+pub returns-in-Err-clause-in_line : goal.returns-in-Err-clause-in_line
+returns-in-Err-clause-in_line g c fault =
+    let took = c.read_on.ensures.took in
+    ahead-in_line c.look.new.self c.read_on.new.self took.0 c.in_default.ensures.looked c.in_default.ensures.no_newline took.1 c.in-Err.ensures.err
+
 pub returns-in-Ok-eq0-clause-lines : goal.returns-in-Ok-eq0-clause-lines
 returns-in-Ok-eq0-clause-lines g c text before =
     let took = c.read_on.ensures.took in
@@ -47,7 +52,7 @@ reading-preserved g c =
     record {
       lines = λ text before. stands-took c.look.new.self c.read_on.new.self _ _ took.0 text took.1 took.2
           (c.in_default.ensures.none _ text (c.reading.invariant.lines text before));
-      later = omega (arith, c.reading.invariant.later, c.read_on.ensures.later);
+      kept = c.in-Ok.ensures.kept ∙ c.reading.invariant.kept;
       taken = taken-more _ _ _ _ _ _ _ c.reading.self.taken _ c.reading.invariant.taken took.0 took.2 took.3
           (omega (arith, took.1.is_taken, c.look.ensures.taken));
       weight = omega (arith, weight-took c.look.new.self c.read_on.new.self took.0 took.1, c.look.ensures.weight, c.reading.invariant.weight);

@@ -7,7 +7,7 @@ use Rattle.edge_outside.proofs.line_reader.LineReader.next.Given as goal
 abbrev pub invariant-reading : goal.invariant-reading
 invariant-reading g l = record {
   lines : (text : List ℕ) → Stands l.fn.self (g.S.Source.left l.fn.source) text → Stands l.self (g.S.Source.left l.source) text;
-  later : g.S.Source.faults l.fn.source ≤ g.S.Source.faults l.source;
+  kept : g.S.Source.faults l.source ≡ g.S.Source.faults l.fn.source;
   taken : (bytes : List ℕ) × Consumes (g.S.Source.left l.fn.source) (g.S.Source.left l.source) bytes
       × Appends (g.S.Source.taken l.fn.source) (g.S.Source.taken l.source) bytes
       × (l.self.taken ≡ l.fn.self.taken + length bytes);
