@@ -16,7 +16,7 @@ use Rattle.addr_set.specs.declared.intervals.Interval.{Interval}
 use Rattle.addr_set.specs.Intervals.{is_in, is_in_any, block_of, AreApart}
 
 abbrev Before : Interval → Interval → Type 0
-Before one later = (one.first ≤ later.first) × (one.last < later.first)
+Before one later = (one.first ≤ later.first) × (one.last + 1 < later.first)
 
 -- two that overlap or touch
 abbrev pub both : Interval → Interval → Interval
@@ -42,7 +42,7 @@ AreApart-front front last apart i j d before within =
     rw (get_or_append_left front (last ∷ []) d i (omega arith), get_or_append_left front (last ∷ []) d j within) at pair
 
 -- each of those before the last one
-AreApart-last : (front : List Interval) (last : Interval) → AreApart (front ++ last ∷ []) → (k : ℕ) (d : Interval) → k < length front → ((get_or front k d).first ≤ last.first) × ((get_or front k d).last < last.first)
+AreApart-last : (front : List Interval) (last : Interval) → AreApart (front ++ last ∷ []) → (k : ℕ) (d : Interval) → k < length front → ((get_or front k d).first ≤ last.first) × ((get_or front k d).last + 1 < last.first)
 AreApart-last front last apart k d below =
     let more : length front < length (front ++ last ∷ []) = rw length-append (omega arith) in
     let pair = apart k (length front) d below more in
@@ -56,7 +56,7 @@ AreApart-more : (front : List Interval) (last next : Interval) → AreApart (fro
 AreApart-more front last next apart begins gap =
     all_pairs_push Before (front ++ last ∷ []) next apart (λ k d below. at_place k d (omega (arith, length-append front (last ∷ []))))
   where
-    at_place : (k : ℕ) (d : Interval) → k ≤ length front → ((get_or (front ++ last ∷ []) k d).first ≤ next.first) × ((get_or (front ++ last ∷ []) k d).last < next.first)
+    at_place : (k : ℕ) (d : Interval) → k ≤ length front → ((get_or (front ++ last ∷ []) k d).first ≤ next.first) × ((get_or (front ++ last ∷ []) k d).last + 1 < next.first)
     at_place k d below =
         elim (cases_lt k (length front)) [
           | inl before ↦

@@ -3,7 +3,7 @@ use Rattle.std.proofs.Common.{◌≡◌, ℕ, zero, suc, ◌+◌, ◌<◌, ◌�
 use Rattle.std.specs.List.{AllZip, AllWithin}
 use Rattle.std.proofs.lemmas.List.{take_more, get_or_default}
 use Rattle.edge_base.specs.declared.expression.Item.{Item}
-use Rattle.addr_set.specs.ItemTexts.{IsGoodText, IsFirstFault}
+use Rattle.addr_set.specs.ItemTexts.{IsGoodText, IsFirstFlaw}
 
 module _ {A B : Type 0} (R : A → B → Type 0) where
   pub AllZip-more : (xs : List A) (ys : List B) (x : A) (y : B) → AllZip R xs ys → R x y → AllZip R (xs ++ x ∷ []) (ys ++ y ∷ [])
@@ -23,8 +23,8 @@ module _ {A B : Type 0} (R : A → B → Type 0) where
   AllWithin-from_zip (x ∷ xs) (y ∷ ys) (suc i) within h (suc k) d low high = AllWithin-from_zip xs ys i (omega arith) h.1 k d (omega arith) (omega arith)
 
 -- the next text has a fault
-pub IsFirstFault-next : (Fault : List ℕ → Type 0) (texts all : List (List ℕ)) (items : List Item) (i at : ℕ) (text shown : List ℕ) → texts ≡ all → i < length texts → AllZip IsGoodText (take i texts) items → text ≡ get_or texts i text → shown ≡ text → at ≡ i → Fault shown → IsFirstFault Fault all at
-IsFirstFault-next Fault texts all items i at text shown same within good is_text is_shown is_at fault =
+pub IsFirstFlaw-next : (Fault : List ℕ → Type 0) (texts all : List (List ℕ)) (items : List Item) (i at : ℕ) (text shown : List ℕ) → texts ≡ all → i < length texts → AllZip IsGoodText (take i texts) items → text ≡ get_or texts i text → shown ≡ text → at ≡ i → Fault shown → IsFirstFlaw Fault all at
+IsFirstFlaw-next Fault texts all items i at text shown same within good is_text is_shown is_at fault =
     rw (is_at, ← same) (record {
       within = within;
       before = AllWithin-from_zip IsGoodText texts items i (omega arith) good;

@@ -23,6 +23,6 @@ last_of_block last_bits number = first_of_block last_bits number + (2 ^ last_bit
 abbrev pub block_of : ℕ → ℕ → Interval
 block_of last_bits number = record { first = first_of_block last_bits number; last = last_of_block last_bits number }
 
--- each interval begins no later than those after it, and ends before they begin
+-- each interval begins no later than those after it, and between its end and their beginning there is another number
 abbrev pub AreApart : List Interval → Type 0
-AreApart intervals = AllPairs (λ one later. (one.first ≤ later.first) × (one.last < later.first)) intervals
+AreApart intervals = AllPairs (λ one later. (one.first ≤ later.first) × (one.last + 1 < later.first)) intervals

@@ -1,6 +1,6 @@
 -- Which texts stand for which items of an address list.
-use Rattle.std.specs.Prelude.{◌≡◌, ℕ, ◌<◌, ◌≤◌, List, ◌++◌, length, slice_index, codes}
-use Rattle.std.specs.List.{AllWithin, HoldsAt}
+use Rattle.std.specs.Prelude.{◌≡◌, ◌≢◌, ℕ, ◌<◌, ◌≤◌, List, ◌++◌, length, slice_index, codes, Result, Ok, Err}
+use Rattle.std.specs.List.{AllWithin, AllZip, HoldsAt}
 use Rattle.std.specs.Net.Grammar.{IsNumber}
 use Rattle.edge_base.specs.declared.address.Addr.{Addr}
 use Rattle.edge_base.specs.declared.address.Addr.TheVariants as addr
@@ -8,11 +8,15 @@ use Rattle.edge_base.specs.declared.expression.Lit.TheVariants as lit
 use Rattle.edge_base.specs.declared.expression.Item.{Item}
 use Rattle.edge_base.specs.declared.expression.Item.TheVariants as item
 use Rattle.edge_base.specs.Address.{IsAddrText}
+use Rattle.addr_set.specs.declared.reading.ItemFault.{ItemFault}
+use Rattle.addr_set.specs.declared.reading.ItemFault.TheVariants as fault
 use Rattle.addr_set.specs.Sets.{width_of, IsAddrItem}
+use Rattle.edge_base.specs.Bytes.{digit_zero}
 
 -- `0`, or one to three digits of which the first isn't `0`, and the number that they write
 abbrev pub IsPrefixText : List ℕ → ℕ → Type 0
-IsPrefixText digits bits = IsNumber 10 digits bits × (length digits ≤ 3) × (slice_index digits 0 ≡ 48 → length digits ≡ 1)
+IsPrefixText digits bits =
+    IsNumber 10 digits bits × (length digits ≤ 3) × (slice_index digits 0 ≡ digit_zero → length digits ≡ 1)
 
 -- two addresses of one family
 abbrev pub IsOneFamily : Addr → Addr → Type 0
@@ -75,8 +79,22 @@ IsLongPrefix text = (one : Addr) × (bits : ℕ) × IsBlockText text one bits ×
 abbrev pub IsBackward : List ℕ → Type 0
 IsBackward text = (first last : Addr) × IsRangeText text first last × IsBelow last first
 
--- the text at this place has the fault, and those before it stand for items that hold addresses
-pub record IsFirstFault (Fault : List ℕ → Type 0) (texts : List (List ℕ)) (at : ℕ) : Type 0 where
+-- the text at this place has the flaw, and those before it stand for items that hold addresses
+pub record IsFirstFlaw (HasFlaw : List ℕ → Type 0) (texts : List (List ℕ)) (at : ℕ) : Type 0 where
   pub within : at < length texts
   pub before : AllWithin (λ text. (one : Item) × IsGoodText text one) texts 0 at
-  pub here : HoldsAt Fault texts at
+  pub here : HoldsAt HasFlaw texts at
+
+-- what an answer says of the texts: their items, or the first that stands for none that holds addresses, and why
+abbrev pub AreReadAs : List (List ℕ) → Result (List Item) ItemFault → Type 0
+AreReadAs texts (Ok items) = AllZip IsGoodText texts items
+AreReadAs texts (Err (fault.BadAddr at)) = IsFirstFlaw IsNoItem texts at
+AreReadAs texts (Err (fault.BadPrefix at)) = IsFirstFlaw IsLongPrefix texts at
+AreReadAs texts (Err (fault.BackwardRange at)) = IsFirstFlaw IsBackward texts at
+AreReadAs texts (Err fault.Memory) = Unit {0}
+
+-- texts have one answer, but for want of memory
+abbrev pub ReadingsAreUnique : Type 0
+ReadingsAreUnique =
+    (texts : List (List ℕ)) (a b : Result (List Item) ItemFault) → a ≢ Err fault.Memory → b ≢ Err fault.Memory
+    → AreReadAs texts a → AreReadAs texts b → a ≡ b

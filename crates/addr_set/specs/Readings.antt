@@ -1,3 +1,4 @@
+-- Working vocabulary, which no public clause cites.
 -- What is read of one text of an address list.
 use Rattle.std.specs.Prelude.{◌≡◌, ℕ, ◌<◌, ◌≤◌, List, Result, Ok, Err}
 use Rattle.edge_base.specs.declared.address.Addr.{Addr}

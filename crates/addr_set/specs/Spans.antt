@@ -1,3 +1,4 @@
+-- Working vocabulary, which no public clause cites.
 -- The interval of one item.
 use Rattle.std.specs.Prelude.{Bool, false}
 use Rattle.edge_base.specs.declared.address.Addr.{Addr}

@@ -2,7 +2,7 @@ ghost use Rattle.std.specs.Prelude.{◌≡◌, ◌↔◌, ℕ, ◌^◌, ◌<◌,
 ghost use Rattle.std.specs.List.{All, AllZip};
 ghost use Rattle.edge_base.specs.declared.address.Addr.{Addr};
 ghost use Rattle.addr_set.specs.Sets.{IsAddrItem, IsRange};
-ghost use Rattle.addr_set.specs.ItemTexts.{IsPrefixText, IsOneFamily, IsBelow, IsGoodText, IsNoItem, IsLongPrefix, IsBackward, IsFirstFault, ItemIsUnique};
+ghost use Rattle.addr_set.specs.ItemTexts.{IsPrefixText, IsOneFamily, IsBelow, IsGoodText, IsNoItem, IsLongPrefix, IsBackward, IsFirstFlaw, ItemIsUnique, ReadingsAreUnique};
 ghost use Rattle.addr_set.specs.Readings.{Reads, ReadsJoined, ReadsRange, ReadsBlock};
 
 use edge_base::{Addr, Item, ListedItems, Lit, Texts, parse_addr};
@@ -126,14 +126,19 @@ pub fn item_is_unique()
     ensures { ItemIsUnique }
 {}
 
+/// A law: texts are read as one list of items or refused for one cause at one place, and never both.
+pub fn readings_are_unique()
+    ensures { ReadingsAreUnique }
+{}
+
 /// The items of these texts: addresses, blocks, and ranges.
 pub fn parse_items(alloc: Global, texts: &Texts) -> Result<ListedItems, ItemFault>
     requires { length texts.now < 2 ^ 32 }
     ensures ok { IfOk result (λ items. AllZip IsGoodText texts.now items) }
     ensures items { IfOk result (All IsAddrItem) }
-    ensures bad_addr { (at : ℕ) → result ≡ Err (ItemFault.BadAddr at) → IsFirstFault IsNoItem texts.now at }
-    ensures bad_prefix { (at : ℕ) → result ≡ Err (ItemFault.BadPrefix at) → IsFirstFault IsLongPrefix texts.now at }
-    ensures backward_range { (at : ℕ) → result ≡ Err (ItemFault.BackwardRange at) → IsFirstFault IsBackward texts.now at }
+    ensures bad_addr { (at : ℕ) → result ≡ Err (ItemFault.BadAddr at) → IsFirstFlaw IsNoItem texts.now at }
+    ensures bad_prefix { (at : ℕ) → result ≡ Err (ItemFault.BadPrefix at) → IsFirstFlaw IsLongPrefix texts.now at }
+    ensures backward_range { (at : ℕ) → result ≡ Err (ItemFault.BackwardRange at) → IsFirstFlaw IsBackward texts.now at }
 {
     let mut items = Items::new(alloc);
     for text in texts.as_slice() {

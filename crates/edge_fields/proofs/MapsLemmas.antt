@@ -1,15 +1,11 @@
 -- The map of some pairs grows by one pair at its end.
-use Rattle.std.proofs.Common.{◌≡◌, ℕ, Bool, true, false, cond, not, ◌||◌, if◌then◌else◌, List, [], ◌∷◌, ◌++◌, map, filter, position, slice_get, None, Some, refl, sym, ap, subst, ◌∙◌, true≢false, bytes_eq, append-nil, append_assoc}
+use Rattle.std.proofs.Common.{◌≡◌, ℕ, Bool, true, false, cond, not, ◌||◌, if◌then◌else◌, List, [], ◌∷◌, ◌++◌, map, filter, refl, sym, ap, subst, ◌∙◌, true≢false, bytes_eq, append-nil}
 use Rattle.std.specs.List.{list_any, AllByRecursion, IsDistinct}
-use Rattle.std.specs.Map.{keys_of, values_of, lookup}
-use Rattle.std.specs.Option.{unwrap_or}
+use Rattle.std.specs.Map.{keys_of}
 use Rattle.std.proofs.lemmas.Cmp.{nat_list_eq_equiv}
 use Rattle.std.proofs.lemmas.List.{map-append, map_push}
 use Rattle.std.proofs.lemmas.List.Elements.{filter-append}
 use Rattle.std.proofs.lemmas.Slice.Eq.{bytes_eq-Decides}
-use Rattle.indexmap.specs.IndexMap.{insert_entry}
-use Rattle.indexmap.specs.Layout.{set_value_at}
-use Rattle.indexmap.proofs.MapLemmas.{Found-position, insert_entry-first, insert_entry-absent, absent_from_lookup, absent_before}
 use Rattle.edge_fields.specs.Maps.{distinct_of, values_at, map_of, with_value}
 
 abbrev Text : Type 0
@@ -18,17 +14,17 @@ Text = List ℕ
 abbrev Pairs : Type 0
 Pairs = List (Text × Text)
 
-equal : (a b : Text) → bytes_eq a b ≡ true → a ≡ b
+pub equal : (a b : Text) → bytes_eq a b ≡ true → a ≡ b
 equal a b = (bytes_eq-Decides a b).0
 
-swapped : (a b : Text) (e : Bool) → bytes_eq a b ≡ e → bytes_eq b a ≡ e
+pub swapped : (a b : Text) (e : Bool) → bytes_eq a b ≡ e → bytes_eq b a ≡ e
 swapped a b e p = nat_list_eq_equiv.symm b a ∙ p
 
-or_false-left : (a b : Bool) → (a || b) ≡ false → a ≡ false
+pub or_false-left : (a b : Bool) → (a || b) ≡ false → a ≡ false
 or_false-left true b e = e
 or_false-left false b e = refl
 
-or_false-right : (a b : Bool) → (a || b) ≡ false → b ≡ false
+pub or_false-right : (a b : Bool) → (a || b) ≡ false → b ≡ false
 or_false-right true b e = absurd (true≢false e)
 or_false-right false b e = e
 
@@ -128,14 +124,6 @@ module _ (f : Text → List Text) (k v : Text) where
   abbrev grown : Text → List Text
   grown key = f key ++ (if bytes_eq key k then v ∷ [] else [])
 
-  lookup-entries : (ds : List Text) → lookup (bytes_eq k) (entries ds) ≡ (if list_any (bytes_eq k) ds then Some (f k) else None)
-  lookup-entries [] = refl
-  lookup-entries (d ∷ ds) = by (lookup-entries ds) (bytes_eq k d) refl
-    where
-      by : lookup (bytes_eq k) (entries ds) ≡ (if list_any (bytes_eq k) ds then Some (f k) else None) → (e : Bool) → bytes_eq k d ≡ e → lookup (bytes_eq k) (entries (d ∷ ds)) ≡ (if list_any (bytes_eq k) (d ∷ ds) then Some (f k) else None)
-      by rest true e = rw e (ap (λ key. Some (f key)) (sym (equal k d e)))
-      by rest false e = rw e rest
-
   -- where the key is not among these, they stay
   grown-other : (ds : List Text) → AllByRecursion (λ y. bytes_eq k y ≡ false) ds → map (λ key. (key, grown key)) ds ≡ entries ds
   grown-other [] h = refl
@@ -150,26 +138,32 @@ module _ (f : Text → List Text) (k v : Text) where
   all_of : (d : Text) (ds : List Text) → k ≡ d → AllByRecursion (λ y. bytes_eq d y ≡ false) ds → AllByRecursion (λ y. bytes_eq k y ≡ false) ds
   all_of d ds same h = subst (λ x. AllByRecursion (λ y. bytes_eq x y ≡ false) ds) (sym same) h
 
-  insert-there : (ds : List Text) → IsDistinct bytes_eq ds → list_any (bytes_eq k) ds ≡ true → insert_entry bytes_eq (entries ds) k (f k ++ v ∷ []) ≡ map (λ key. (key, grown key)) ds
+  with_value-there : (ds : List Text) → IsDistinct bytes_eq ds → list_any (bytes_eq k) ds ≡ true → with_value (entries ds) k v ≡ map (λ key. (key, grown key)) ds
   unfolding IsDistinct
-  insert-there [] distinct there = absurd (true≢false (sym there))
-  insert-there (d ∷ ds) distinct there = by (insert-there ds distinct.1) distinct.0 (bytes_eq k d) refl
+  with_value-there [] distinct there = absurd (true≢false (sym there))
+  with_value-there (d ∷ ds) distinct there = by (with_value-there ds distinct.1) distinct.0 (bytes_eq k d) refl
     where
-      by : (list_any (bytes_eq k) ds ≡ true → insert_entry bytes_eq (entries ds) k (f k ++ v ∷ []) ≡ map (λ key. (key, grown key)) ds) → AllByRecursion (λ y. bytes_eq d y ≡ false) ds → (e : Bool) → bytes_eq k d ≡ e → insert_entry bytes_eq (entries (d ∷ ds)) k (f k ++ v ∷ []) ≡ map (λ key. (key, grown key)) (d ∷ ds)
+      by : (list_any (bytes_eq k) ds ≡ true → with_value (entries ds) k v ≡ map (λ key. (key, grown key)) ds) → AllByRecursion (λ y. bytes_eq d y ≡ false) ds → (e : Bool) → bytes_eq k d ≡ e → with_value (entries (d ∷ ds)) k v ≡ map (λ key. (key, grown key)) (d ∷ ds)
       by rest apart true e =
-          ap (λ c. if c then (d, f k ++ v ∷ []) ∷ entries ds else (d, f d) ∷ insert_entry bytes_eq (entries ds) k (f k ++ v ∷ [])) e
-          ∙ (λ j. (d, f (equal k d e j) ++ v ∷ []) ∷ sym (grown-other ds (all_of d ds (equal k d e) apart)) j)
+          ap (λ c. if c then (d, f d ++ v ∷ []) ∷ entries ds else (d, f d) ∷ with_value (entries ds) k v) e
+          ∙ (λ j. (d, f d ++ v ∷ []) ∷ sym (grown-other ds (all_of d ds (equal k d e) apart)) j)
           ∙ (λ j. (d, ap (λ c. f d ++ (if c then v ∷ [] else [])) (sym (swapped k d true e)) j) ∷ map (λ key. (key, grown key)) ds)
       by rest apart false e =
-          ap (λ c. if c then (d, f k ++ v ∷ []) ∷ entries ds else (d, f d) ∷ insert_entry bytes_eq (entries ds) k (f k ++ v ∷ [])) e
+          ap (λ c. if c then (d, f d ++ v ∷ []) ∷ entries ds else (d, f d) ∷ with_value (entries ds) k v) e
           ∙ (λ j. (d, sym (append-nil (f d)) j) ∷ rest (sym (ap (λ c. c || list_any (bytes_eq k) ds) e) ∙ there) j)
           ∙ (λ j. (d, ap (λ c. f d ++ (if c then v ∷ [] else [])) (sym (swapped k d false e)) j) ∷ map (λ key. (key, grown key)) ds)
 
-  insert-new : (ds : List Text) (texts : List Text) → AllByRecursion (λ y. bytes_eq k y ≡ false) ds → insert_entry bytes_eq (entries ds) k texts ≡ entries ds ++ (k, texts) ∷ []
-  insert-new [] texts h = refl
-  insert-new (d ∷ ds) texts h =
-      ap (λ c. if c then (d, texts) ∷ entries ds else (d, f d) ∷ insert_entry bytes_eq (entries ds) k texts) h.0
-      ∙ ap (λ rest. (d, f d) ∷ rest) (insert-new ds texts h.1)
+-- the keys of entries that are made of them
+keys-entries : (f : Text → List Text) (ds : List Text) → keys_of (map (λ key. (key, f key)) ds) ≡ ds
+keys-entries f [] = refl
+keys-entries f (d ∷ ds) = ap (λ rest. d ∷ rest) (keys-entries f ds)
+
+-- a new key goes last
+pub with_value-new : (es : List (Text × List Text)) (k v : Text) → list_any (bytes_eq k) (keys_of es) ≡ false → with_value es k v ≡ es ++ (k, v ∷ []) ∷ []
+with_value-new [] k v none = refl
+with_value-new (e ∷ es) k v none =
+    ap (λ c. if c then (e.0, e.1 ++ v ∷ []) ∷ es else e ∷ with_value es k v) (or_false-left _ _ none)
+    ∙ ap (λ rest. e ∷ rest) (with_value-new es k v (or_false-right _ _ none))
 
 -- the map of some pairs and one more is the map of the pairs with that value
 pub map_of_push : (pairs : Pairs) (k v : Text) → map_of (pairs ++ (k, v) ∷ []) ≡ with_value (map_of pairs) k v
@@ -197,43 +191,15 @@ map_of_push pairs k v = start ∙ by (list_any (bytes_eq k) ks) refl
         let among : list_any (bytes_eq k) ds ≡ true = any-distinct_of k ks ∙ there in
         ap (λ c. made (ds ++ (if c then [] else k ∷ []))) there
         ∙ ap made (append-nil ds)
-        ∙ sym (insert-there f k v ds (IsDistinct-distinct_of ks) among)
-        ∙ ap (λ had. insert_entry bytes_eq (map_of pairs) k (unwrap_or had [] ++ v ∷ [])) (sym (lookup-entries f k v ds ∙ ap (λ c. if c then Some (f k) else None) among))
+        ∙ sym (with_value-there f k v ds (IsDistinct-distinct_of ks) among)
     by false there =
         let among : list_any (bytes_eq k) ds ≡ false = any-distinct_of k ks ∙ there in
         ap (λ c. made (ds ++ (if c then [] else k ∷ []))) there
         ∙ map-append (λ key. (key, grown f k v key)) ds (k ∷ [])
         ∙ ap (λ front. front ++ (k, grown f k v k) ∷ []) (grown-other f k v ds (absent f k v ds among))
         ∙ (λ j. map_of pairs ++ (k, values_at-absent k pairs there j ++ (if nat_list_eq_equiv.refl k j then v ∷ [] else [])) ∷ [])
-        ∙ sym (insert-new f k v ds (v ∷ []) (absent f k v ds among))
-        ∙ ap (λ had. insert_entry bytes_eq (map_of pairs) k (unwrap_or had [] ++ v ∷ [])) (sym (lookup-entries f k v ds ∙ ap (λ c. if c then Some (f k) else None) among))
+        ∙ sym (with_value-new (map_of pairs) k v (ap (list_any (bytes_eq k)) (keys-entries f ds) ∙ among))
 
 -- the keys of a map are distinct
-keys-entries : (f : Text → List Text) (ds : List Text) → keys_of (map (λ key. (key, f key)) ds) ≡ ds
-keys-entries f [] = refl
-keys-entries f (d ∷ ds) = ap (λ rest. d ∷ rest) (keys-entries f ds)
-
 pub IsDistinct-map_of : (pairs : Pairs) → IsDistinct bytes_eq (keys_of (map_of pairs))
 IsDistinct-map_of pairs = subst (IsDistinct bytes_eq) (sym (keys-entries (λ key. values_at key pairs) (distinct_of (keys_of pairs)))) (IsDistinct-distinct_of (keys_of pairs))
-
--- ---- what the code does with a map
--- a value pushed at the place of its key
-pub with_value-at : (es : List (Text × List Text)) (k v : Text) (at : ℕ) (texts : List Text) → position (bytes_eq k) (keys_of es) ≡ Some at → slice_get (values_of es) at ≡ Some texts → set_value_at es at (texts ++ v ∷ []) ≡ with_value es k v
-with_value-at es k v at texts found here =
-    let place = Found-position (bytes_eq k) es at found in
-    sym (insert_entry-first bytes_eq k (texts ++ v ∷ []) es at place.first)
-    ∙ ap (λ had. insert_entry bytes_eq es k (unwrap_or had [] ++ v ∷ [])) (sym (place.value ∙ here))
-
--- a pair copied from the front of what is left goes last
-pub copied-pair : (es left : List (Text × List Text)) (k : Text) (texts : List Text) → IsDistinct bytes_eq (keys_of (es ++ (k, texts) ∷ left)) → insert_entry bytes_eq es k texts ++ left ≡ es ++ (k, texts) ∷ left
-copied-pair es left k texts distinct =
-    ap (λ front. front ++ left) (insert_entry-absent bytes_eq k texts es (absent_from_lookup (bytes_eq k) es (absent_before nat_list_eq_equiv es left (k, texts) distinct)))
-    ∙ append_assoc es ((k, texts) ∷ []) left
-
-pub copied-step : (es it left all now new : List (Text × List Text)) (k k' : Text) (texts texts' : List Text)
-    → it ≡ (k, texts) ∷ left → k' ≡ k → texts' ≡ texts → new ≡ insert_entry bytes_eq es k' texts' → es ++ it ≡ now → all ≡ now → IsDistinct bytes_eq (keys_of all) → new ++ left ≡ now
-copied-step es it left all now new k k' texts texts' step same_key same_texts added so_far view distinct =
-    let whole : es ++ (k, texts) ∷ left ≡ now = ap (λ l. es ++ l) (sym step) ∙ so_far in
-    ap (λ front. front ++ left) (added ∙ (λ j. insert_entry bytes_eq es (same_key j) (same_texts j)))
-    ∙ copied-pair es left k texts (subst (λ l. IsDistinct bytes_eq (keys_of l)) (view ∙ sym whole) distinct)
-    ∙ whole

@@ -46,25 +46,26 @@ abbrev pub texts : List (List ℕ) → Value
 texts items = value.Array (map value.Text items)
 
 -- a field of a request and of its reply, if there is one
-abbrev pub value_of : Request → Option Reply → FieldId → Option Value
-value_of request reply id.Host = Some (value.Text (host_of request))
-value_of request reply id.Cookie = Some (value.Text (first_value (codes "cookie") request.headers))
-value_of request reply id.Referer = Some (value.Text (first_value (codes "referer") request.headers))
-value_of request reply id.UserAgent = Some (value.Text (first_value (codes "user-agent") request.headers))
-value_of request reply id.Method = Some (value.Text request.method)
-value_of request reply id.Uri = Some (value.Text (uri_of request.target))
-value_of request reply id.Path = Some (value.Text (path_of request.target))
-value_of request reply id.Query = Some (value.Text (query_of request.target))
-value_of request reply id.FullUri = Some (value.Text (full_uri_of request))
-value_of request reply id.Version = Some (value.Text (version_of request))
-value_of request reply id.Source = Some (value.Addr request.from)
-value_of request reply id.Ssl = Some (value.Bool request.ssl)
-value_of request reply id.Timestamp = Some (value.Num (pos (request.at / 1000)))
-value_of request reply id.Headers = Some (value.Map (map_of (pairs_of request.headers)))
-value_of request reply id.HeaderNames = Some (texts (keys_of (pairs_of request.headers)))
-value_of request reply id.HeaderValues = Some (texts (values_of (pairs_of request.headers)))
-value_of request reply id.Args = Some (value.Map (map_of (arguments_of (query_of request.target))))
-value_of request reply id.ArgNames = Some (texts (keys_of (arguments_of (query_of request.target))))
-value_of request reply id.ArgValues = Some (texts (values_of (arguments_of (query_of request.target))))
-value_of request reply id.ResponseCode = option_map (λ (given : Reply). value.Num (pos given.status)) reply
-value_of request reply id.ResponseHeaders = option_map (λ (given : Reply). value.Map (map_of (pairs_of given.headers))) reply
+abbrev pub field_of : Request → Option Reply → FieldId → Option Value
+field_of request reply id.Host = Some (value.Text (host_of request))
+field_of request reply id.Cookie = Some (value.Text (first_value (codes "cookie") request.headers))
+field_of request reply id.Referer = Some (value.Text (first_value (codes "referer") request.headers))
+field_of request reply id.UserAgent = Some (value.Text (first_value (codes "user-agent") request.headers))
+field_of request reply id.Method = Some (value.Text request.method)
+field_of request reply id.Uri = Some (value.Text (uri_of request.target))
+field_of request reply id.Path = Some (value.Text (path_of request.target))
+field_of request reply id.Query = Some (value.Text (query_of request.target))
+field_of request reply id.FullUri = Some (value.Text (full_uri_of request))
+field_of request reply id.Version = Some (value.Text (version_of request))
+field_of request reply id.Source = Some (value.Addr request.from)
+field_of request reply id.Ssl = Some (value.Bool request.ssl)
+field_of request reply id.Timestamp = Some (value.Num (pos (request.at / 1000)))
+field_of request reply id.Headers = Some (value.Map (map_of (pairs_of request.headers)))
+field_of request reply id.HeaderNames = Some (texts (keys_of (pairs_of request.headers)))
+field_of request reply id.HeaderValues = Some (texts (values_of (pairs_of request.headers)))
+field_of request reply id.Args = Some (value.Map (map_of (arguments_of (query_of request.target))))
+field_of request reply id.ArgNames = Some (texts (keys_of (arguments_of (query_of request.target))))
+field_of request reply id.ArgValues = Some (texts (values_of (arguments_of (query_of request.target))))
+field_of request reply id.ResponseCode = option_map (λ (given : Reply). value.Num (pos given.status)) reply
+field_of request reply id.ResponseHeaders =
+    option_map (λ (given : Reply). value.Map (map_of (pairs_of given.headers))) reply

@@ -21,4 +21,5 @@ HasBasic basic.Bool v = (truth : Bool) × (v ≡ value.Bool truth)
 abbrev pub HasKind : Kind → Value → Type 0
 HasKind (kind.One of) v = HasBasic of v
 HasKind (kind.Array of) v = (items : List Value) × All (HasBasic of) items × (v ≡ value.Array items)
-HasKind kind.Map v = (entries : List (List ℕ × List (List ℕ))) × IsDistinct bytes_eq (keys_of entries) × (v ≡ value.Map entries)
+HasKind kind.Map v =
+    (entries : List (List ℕ × List (List ℕ))) × IsDistinct bytes_eq (keys_of entries) × (v ≡ value.Map entries)

@@ -1,8 +1,6 @@
 -- The map that some pairs of a key and a value make.
-use Rattle.std.specs.Prelude.{ℕ, not, List, [], ◌∷◌, ◌++◌, map, filter, bytes_eq}
-use Rattle.std.specs.Option.{unwrap_or}
-use Rattle.std.specs.Map.{keys_of, lookup}
-use Rattle.indexmap.specs.IndexMap.{insert_entry}
+use Rattle.std.specs.Prelude.{ℕ, not, if◌then◌else◌, List, [], ◌∷◌, ◌++◌, map, filter, bytes_eq}
+use Rattle.std.specs.Map.{keys_of}
 
 -- the texts in order of first appearance, each once
 abbrev pub distinct_of : List (List ℕ) → List (List ℕ)
@@ -19,4 +17,7 @@ map_of pairs = map (λ key. (key, values_at key pairs)) (distinct_of (keys_of pa
 
 -- a map with one more value at the end of those of a key, and a new key last
 abbrev pub with_value : List (List ℕ × List (List ℕ)) → List ℕ → List ℕ → List (List ℕ × List (List ℕ))
-with_value entries key value = insert_entry bytes_eq entries key (unwrap_or (lookup (bytes_eq key) entries) [] ++ value ∷ [])
+with_value [] key value = (key, value ∷ []) ∷ []
+with_value (entry ∷ entries) key value =
+    if bytes_eq key entry.0 then (entry.0, entry.1 ++ value ∷ []) ∷ entries
+    else entry ∷ with_value entries key value

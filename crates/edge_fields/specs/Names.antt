@@ -1,5 +1,5 @@
--- The names of fields and of functions, and the kinds of fields.
-use Rattle.std.specs.Prelude.{ℕ, Bool, true, false, List, codes}
+-- The names and the kinds of fields and of functions.
+use Rattle.std.specs.Prelude.{◌≢◌, ℕ, Bool, true, false, List, All, codes}
 use Rattle.edge_fields.specs.declared.kind.Basic.TheVariants as basic
 use Rattle.edge_fields.specs.declared.kind.Kind.{Kind}
 use Rattle.edge_fields.specs.declared.kind.Kind.TheVariants as kind
@@ -33,28 +33,28 @@ field_name id.ResponseCode = codes "http.response.code"
 field_name id.ResponseHeaders = codes "http.response.headers"
 
 -- the kind of a field's values
-abbrev pub kind_of : FieldId → Kind
-kind_of id.Host = kind.One basic.Text
-kind_of id.Cookie = kind.One basic.Text
-kind_of id.Referer = kind.One basic.Text
-kind_of id.UserAgent = kind.One basic.Text
-kind_of id.Method = kind.One basic.Text
-kind_of id.Uri = kind.One basic.Text
-kind_of id.Path = kind.One basic.Text
-kind_of id.Query = kind.One basic.Text
-kind_of id.FullUri = kind.One basic.Text
-kind_of id.Version = kind.One basic.Text
-kind_of id.Source = kind.One basic.Addr
-kind_of id.Ssl = kind.One basic.Bool
-kind_of id.Timestamp = kind.One basic.Num
-kind_of id.Headers = kind.Map
-kind_of id.HeaderNames = kind.Array basic.Text
-kind_of id.HeaderValues = kind.Array basic.Text
-kind_of id.Args = kind.Map
-kind_of id.ArgNames = kind.Array basic.Text
-kind_of id.ArgValues = kind.Array basic.Text
-kind_of id.ResponseCode = kind.One basic.Num
-kind_of id.ResponseHeaders = kind.Map
+abbrev pub field_kind : FieldId → Kind
+field_kind id.Host = kind.One basic.Text
+field_kind id.Cookie = kind.One basic.Text
+field_kind id.Referer = kind.One basic.Text
+field_kind id.UserAgent = kind.One basic.Text
+field_kind id.Method = kind.One basic.Text
+field_kind id.Uri = kind.One basic.Text
+field_kind id.Path = kind.One basic.Text
+field_kind id.Query = kind.One basic.Text
+field_kind id.FullUri = kind.One basic.Text
+field_kind id.Version = kind.One basic.Text
+field_kind id.Source = kind.One basic.Addr
+field_kind id.Ssl = kind.One basic.Bool
+field_kind id.Timestamp = kind.One basic.Num
+field_kind id.Headers = kind.Map
+field_kind id.HeaderNames = kind.Array basic.Text
+field_kind id.HeaderValues = kind.Array basic.Text
+field_kind id.Args = kind.Map
+field_kind id.ArgNames = kind.Array basic.Text
+field_kind id.ArgValues = kind.Array basic.Text
+field_kind id.ResponseCode = kind.One basic.Num
+field_kind id.ResponseHeaders = kind.Map
 
 -- whether a field is one of the reply
 abbrev pub is_response : FieldId → Bool
@@ -86,3 +86,32 @@ function_name function.DecodeBase64 = codes "decode_base64"
 function_name function.UrlDecode = codes "url_decode"
 function_name function.WildcardReplace = codes "wildcard_replace"
 function_name function.RegexReplace = codes "regex_replace"
+
+-- none of these functions has the name
+abbrev pub AreUnnamed : List FunctionId → List ℕ → Type 0
+AreUnnamed functions name = All (λ id. function_name id ≢ name) functions
+
+-- the kind of what a function gives, applied to values
+abbrev pub function_kind : FunctionId → Kind
+function_kind function.Any = kind.One basic.Bool
+function_kind function.All = kind.One basic.Bool
+function_kind function.Lower = kind.One basic.Text
+function_kind function.Upper = kind.One basic.Text
+function_kind function.Len = kind.One basic.Num
+function_kind function.Substring = kind.One basic.Text
+function_kind function.RemoveBytes = kind.One basic.Text
+function_kind function.StartsWith = kind.One basic.Bool
+function_kind function.EndsWith = kind.One basic.Bool
+function_kind function.Concat = kind.One basic.Text
+function_kind function.ToString = kind.One basic.Text
+function_kind function.HasKey = kind.One basic.Bool
+function_kind function.HasValue = kind.One basic.Bool
+function_kind function.Split = kind.Array basic.Text
+function_kind function.Join = kind.One basic.Text
+function_kind function.LookupJsonString = kind.One basic.Text
+function_kind function.LookupJsonInteger = kind.One basic.Num
+function_kind function.EncodeBase64 = kind.One basic.Text
+function_kind function.DecodeBase64 = kind.One basic.Text
+function_kind function.UrlDecode = kind.One basic.Text
+function_kind function.WildcardReplace = kind.One basic.Text
+function_kind function.RegexReplace = kind.One basic.Text

@@ -34,9 +34,17 @@ root_of (byte ∷ text) = if byte == 47 then [] else codes "/"
 abbrev pub rooted : List ℕ → List ℕ
 rooted text = root_of text ++ text
 
+-- the uri of what follows a scheme
+abbrev pub uri_after : List ℕ → List ℕ
+uri_after text = rooted (after_authority text)
+
 -- the uri: the target or, of a target in absolute form, what follows the authority, with `/` in front
 abbrev pub uri_of : List ℕ → List ℕ
-uri_of target = option_map_or (λ rest. rooted (after_authority rest)) (after_scheme target) target
+uri_of target = option_map_or uri_after (after_scheme target) target
+
+-- what the uri begins with that doesn't stand in the target: `/` where it had to be put in front, else nothing
+abbrev pub added_root : List ℕ → List ℕ
+added_root target = option_map_or (λ rest. root_of (after_authority rest)) (after_scheme target) []
 
 -- the path: the uri up to its first `?`
 abbrev pub path_of : List ℕ → List ℕ

@@ -1,5 +1,5 @@
 ghost use Rattle.std.specs.Prelude.{◌≡◌, ◌≢◌, All, MatchOption};
-ghost use Rattle.edge_fields.specs.Names.{field_name, kind_of, is_response};
+ghost use Rattle.edge_fields.specs.Names.{field_name, field_kind, is_response};
 
 use crate::kind::{Basic, Kind};
 
@@ -86,7 +86,7 @@ impl FieldId {
 
     /// The kind of the field's values. Takes no memory.
     pub fn kind(self) -> Kind
-        ensures { result ≡ kind_of self }
+        ensures { result ≡ field_kind self }
     {
         match self {
             FieldId::Source => Kind::One(Basic::Addr),

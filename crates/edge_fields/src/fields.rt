@@ -1,16 +1,16 @@
 ghost use Rattle.std.specs.Prelude.{◌≡◌, ◌/◌, ◌↔◌, pos, Some, None, IsTrue, IfOk, IfSome};
 ghost use Rattle.std.specs.Option.{option_copied};
 ghost use Rattle.edge_fields.specs.Target.{uri_of};
-ghost use Rattle.edge_fields.specs.Fields.{host_of, version_of, full_uri_of, value_of};
-ghost use Rattle.edge_fields.specs.Names.{kind_of, is_response};
+ghost use Rattle.edge_fields.specs.Fields.{host_of, version_of, full_uri_of, field_of};
+ghost use Rattle.edge_fields.specs.Names.{field_kind, is_response};
 ghost use Rattle.edge_fields.specs.Kinds.{HasKind};
 ghost use Rattle.edge_fields.specs.declared.value.Value.TheVariants as value;
 
-use crate::arguments::arguments_of;
+use crate::arguments::{argument_names, argument_values, arguments_of};
 use crate::field_id::FieldId;
-use crate::headers::{first_value, pairs_of};
+use crate::headers::{first_value, header_names, header_values, pairs_of};
 use crate::target::{path_of, query_of, uri_of};
-use crate::value::{Value, map, names, values};
+use crate::value::{Value, map};
 use edge_base::{Memory, Reply, Request, Text, TextBuilder};
 use std::alloc::Global;
 
@@ -79,7 +79,7 @@ fn computed(
     reply: Option<&Reply>,
     id: FieldId,
 ) -> Result<Option<Value>, Memory>
-    ensures { IfOk result (λ found. found ≡ value_of request.now (option_copied reply.entry) id) }
+    ensures { IfOk result (λ found. found ≡ field_of request.now (option_copied reply.entry) id) }
 {
     let headers = request.headers.as_slice();
     match id {
@@ -97,11 +97,11 @@ fn computed(
         FieldId::Ssl => Ok(Some(Value::Bool(request.ssl))),
         FieldId::Timestamp => Ok(Some(Value::Num(seconds(request)))),
         FieldId::Headers => Ok(Some(map(alloc, pairs_of(alloc, headers)?)?)),
-        FieldId::HeaderNames => Ok(Some(names(alloc, pairs_of(alloc, headers)?)?)),
-        FieldId::HeaderValues => Ok(Some(values(alloc, pairs_of(alloc, headers)?)?)),
+        FieldId::HeaderNames => Ok(Some(header_names(alloc, headers)?)),
+        FieldId::HeaderValues => Ok(Some(header_values(alloc, headers)?)),
         FieldId::Args => Ok(Some(map(alloc, arguments_of(alloc, query_of(request))?)?)),
-        FieldId::ArgNames => Ok(Some(names(alloc, arguments_of(alloc, query_of(request))?)?)),
-        FieldId::ArgValues => Ok(Some(values(alloc, arguments_of(alloc, query_of(request))?)?)),
+        FieldId::ArgNames => Ok(Some(argument_names(alloc, query_of(request))?)),
+        FieldId::ArgValues => Ok(Some(argument_values(alloc, query_of(request))?)),
         FieldId::ResponseCode => match reply {
             Some(reply) => Ok(Some(Value::Num(i64::from(reply.status)))),
             None => Ok(None),
@@ -120,10 +120,10 @@ pub fn field(
     reply: Option<&Reply>,
     id: FieldId,
 ) -> Result<Option<Value>, Memory>
-    ensures value { IfOk result (λ found. found ≡ value_of request.now (option_copied reply.entry) id) }
+    ensures value { IfOk result (λ found. found ≡ field_of request.now (option_copied reply.entry) id) }
     ensures missing { IfOk result (λ found. (found ≡ None)
         ↔ (IsTrue (is_response id) × (option_copied reply.entry ≡ None))) }
-    ensures kind { IfOk result (λ found. IfSome found (HasKind (kind_of id))) }
+    ensures kind { IfOk result (λ found. IfSome found (HasKind (field_kind id))) }
 {
     computed(alloc, request, reply, id)
 }

@@ -1,5 +1,7 @@
 ghost use Rattle.std.specs.Prelude.{◌≡◌, ◌≢◌, All, MatchOption};
-ghost use Rattle.edge_fields.specs.Names.{function_name};
+ghost use Rattle.edge_fields.specs.Names.{AreUnnamed, function_kind, function_name};
+
+use crate::kind::{Basic, Kind};
 
 /// A function of the Rules language.
 #[derive(Clone, Copy, Debug, PartialEq, Eq)]
@@ -84,11 +86,40 @@ impl FunctionId {
             FunctionId::RegexReplace => b"regex_replace",
         }
     }
+
+    /// The kind of what it gives, applied to values. Takes no memory.
+    pub fn kind(self) -> Kind
+        ensures { result ≡ function_kind self }
+    {
+        match self {
+            FunctionId::Any
+            | FunctionId::All
+            | FunctionId::StartsWith
+            | FunctionId::EndsWith
+            | FunctionId::HasKey
+            | FunctionId::HasValue => Kind::One(Basic::Bool),
+            FunctionId::Len | FunctionId::LookupJsonInteger => Kind::One(Basic::Num),
+            FunctionId::Split => Kind::Array(Basic::Text),
+            FunctionId::Lower
+            | FunctionId::Upper
+            | FunctionId::Substring
+            | FunctionId::RemoveBytes
+            | FunctionId::Concat
+            | FunctionId::ToString
+            | FunctionId::Join
+            | FunctionId::LookupJsonString
+            | FunctionId::EncodeBase64
+            | FunctionId::DecodeBase64
+            | FunctionId::UrlDecode
+            | FunctionId::WildcardReplace
+            | FunctionId::RegexReplace => Kind::One(Basic::Text),
+        }
+    }
 }
 
 /// The first of some functions that has a name.
 fn first_named(functions: &[FunctionId], name: &[u8]) -> Option<FunctionId>
-    ensures { MatchOption result (All (λ id. function_name id ≢ name.now) functions.now) (λ id. function_name id ≡ name.now) }
+    ensures { MatchOption result (AreUnnamed functions.now name.now) (λ id. function_name id ≡ name.now) }
 {
     for &id in functions {
         if id.name() == name {

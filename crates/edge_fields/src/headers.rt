@@ -1,10 +1,13 @@
-ghost use Rattle.std.specs.Prelude.{◌≡◌, map, find, IfOk};
+ghost use Rattle.std.specs.Prelude.{◌≡◌, find, IfOk};
 ghost use Rattle.std.specs.Option.{option_copied};
+ghost use Rattle.std.specs.Map.{keys_of, values_of};
 ghost use Rattle.std.specs.Str.{str_to_ascii_lowercase};
-ghost use Rattle.edge_fields.specs.Fields.{has_name, first_value, pairs_of};
+ghost use Rattle.edge_fields.specs.Fields.{has_name, first_value, pairs_of, texts};
 
 use crate::target::is_same_name;
+use crate::value::Value;
 use edge_base::{Header, Memory, Text};
+use sqlite_items::Items;
 use std::alloc::Global;
 
 /// The first header of a name, ASCII case ignored.
@@ -47,4 +50,26 @@ pub(crate) fn pairs_of(alloc: Global, headers: &[Header]) -> Result<Vec<(Text, T
         ))?;
     }
     Ok(pairs)
+}
+
+/// The names of the headers in lower case, as an array.
+pub(crate) fn header_names(alloc: Global, headers: &[Header]) -> Result<Value, Memory>
+    ensures { IfOk result (λ array. array ≡ texts (keys_of (pairs_of headers.now))) }
+{
+    let mut names = Items::new(alloc);
+    for header in headers {
+        names.push(Value::Text(lowered(alloc, header.name.bytes())?))?;
+    }
+    Ok(Value::Array(names))
+}
+
+/// The values of the headers, as an array.
+pub(crate) fn header_values(alloc: Global, headers: &[Header]) -> Result<Value, Memory>
+    ensures { IfOk result (λ array. array ≡ texts (values_of (pairs_of headers.now))) }
+{
+    let mut values = Items::new(alloc);
+    for header in headers {
+        values.push(Value::Text(header.value.copy(alloc)?))?;
+    }
+    Ok(Value::Array(values))
 }

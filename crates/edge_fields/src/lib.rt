@@ -20,7 +20,7 @@ pub use fields::{field, host_of, version_of};
 pub use function_id::{FunctionId, function_named};
 pub use headers::first_value;
 pub use kind::{Basic, Kind};
-pub use scheme::{ListKinds, Scheme};
+pub use scheme::{ListKinds, Scheme, copy_lists};
 pub use shared::may_be_shared;
 pub use target::{UriParts, path_of, query_of, uri_of};
 pub use text_map::TextMap;

@@ -29,7 +29,7 @@ impl Model for Scheme {
 }
 
 /// A copy of each name with its kind, in order.
-fn copy_lists(alloc: Global, lists: &[(Text, Basic)]) -> Result<ListKinds, Memory>
+pub fn copy_lists(alloc: Global, lists: &[(Text, Basic)]) -> Result<ListKinds, Memory>
     ensures { IfOk result (λ copy. copy ≡ lists.now) }
 {
     let mut copy = Items::new(alloc);
@@ -73,6 +73,14 @@ impl Scheme {
         }
         let lists = copy_lists(alloc, lists.as_slice())?;
         Ok(Scheme { lists })
+    }
+
+    /// The names and the kinds of the lists, in order; no two have one name. Takes no memory.
+    pub fn lists(&self) -> &ListKinds
+        ensures lists { result.now ≡ self.now }
+        ensures distinct { AreLists self.now }
+    {
+        &self.lists
     }
 
     /// The place and the kind of the list of a name. Takes no memory.

@@ -2,7 +2,7 @@ ghost use Rattle.std.specs.Prelude.{◌≡◌, ◌≤◌, ◌⊎◌, [], ◌++�
 ghost use Rattle.std.specs.List.{position_or_len, before_first, after_first};
 ghost use Rattle.std.specs.Option.{option_map};
 ghost use Rattle.std.specs.Str.{str_eq_ignore_ascii_case};
-ghost use Rattle.edge_fields.specs.Target.{is_question, ends_authority, after_front, after_scheme, after_authority, root_of, rooted, uri_of, path_of, query_of};
+ghost use Rattle.edge_fields.specs.Target.{is_question, ends_authority, after_front, after_scheme, after_authority, root_of, added_root, uri_after, uri_of, path_of, query_of};
 
 use crate::cuts::{after, before};
 use edge_base::Request;
@@ -77,9 +77,10 @@ fn root_of(text: &[u8]) -> &'static [u8]
 /// The uri of what follows a scheme.
 #[tactic(auto, using(crate::proofs::TargetLemmas::root_is_path, crate::proofs::TargetLemmas::query_of_rooted))]
 fn absolute_uri(text: &[u8]) -> UriParts<'_>
-    ensures joined { result.root.now ++ result.rest.now ≡ rooted (after_authority text.now) }
-    ensures path { (result.root.now ≡ []) ⊎ (result.root.now ≡ before_first is_question (rooted (after_authority text.now))) }
-    ensures query { after_first is_question result.rest.now ≡ after_first is_question (rooted (after_authority text.now)) }
+    ensures joined { result.root.now ++ result.rest.now ≡ uri_after text.now }
+    ensures root { result.root.now ≡ root_of (after_authority text.now) }
+    ensures path { (result.root.now ≡ []) ⊎ (result.root.now ≡ before_first is_question (uri_after text.now)) }
+    ensures query { after_first is_question result.rest.now ≡ after_first is_question (uri_after text.now) }
 {
     let rest = after_authority(text);
     UriParts {
@@ -91,6 +92,7 @@ fn absolute_uri(text: &[u8]) -> UriParts<'_>
 /// The uri of a request. Takes no memory.
 pub fn uri_of(request: &Request) -> UriParts<'_>
     ensures joined { result.root.now ++ result.rest.now ≡ uri_of request.now.target }
+    ensures root { result.root.now ≡ added_root request.now.target }
     ensures path { (result.root.now ≡ []) ⊎ (result.root.now ≡ path_of request.now.target) }
     ensures query { after_first is_question result.rest.now ≡ query_of request.now.target }
 {

@@ -1,7 +1,5 @@
 ghost use Rattle.std.specs.Prelude.{◌≡◌, IfOk};
-ghost use Rattle.std.specs.Map.{keys_of, values_of};
 ghost use Rattle.edge_fields.specs.Maps.{map_of};
-ghost use Rattle.edge_fields.specs.Fields.{texts};
 ghost use Rattle.edge_fields.specs.declared.value.Value.TheVariants as value;
 
 use crate::text_map::TextMap;
@@ -49,28 +47,6 @@ impl Value {
             Value::Map(map) => Ok(Value::Map(map.copy(alloc)?)),
         }
     }
-}
-
-/// The first texts of some pairs, as an array.
-pub(crate) fn names(alloc: Global, pairs: Vec<(Text, Text)>) -> Result<Value, Memory>
-    ensures { IfOk result (λ array. array ≡ texts (keys_of pairs.items)) }
-{
-    let mut names = Items::new(alloc);
-    for (name, _) in pairs {
-        names.push(Value::Text(name))?;
-    }
-    Ok(Value::Array(names))
-}
-
-/// The second texts of some pairs, as an array.
-pub(crate) fn values(alloc: Global, pairs: Vec<(Text, Text)>) -> Result<Value, Memory>
-    ensures { IfOk result (λ array. array ≡ texts (values_of pairs.items)) }
-{
-    let mut values = Items::new(alloc);
-    for (_, value) in pairs {
-        values.push(Value::Text(value))?;
-    }
-    Ok(Value::Array(values))
 }
 
 /// The map of some pairs.

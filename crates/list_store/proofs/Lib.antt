@@ -1,2 +1,4 @@
+pub mod FaultLemmas
 pub mod SetLemmas
 pub mod ListLemmas
+pub mod ListedLemmas

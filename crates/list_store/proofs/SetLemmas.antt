@@ -10,7 +10,7 @@ use Rattle.std.proofs.lemmas.Slice.Eq.{bytes_eq-Decides}
 use Rattle.edge_base.specs.declared.address.Addr.{Addr}
 use Rattle.edge_base.specs.declared.expression.Item.{Item}
 use Rattle.addr_set.specs.Sets.{holds, has_addr}
-use Rattle.addr_set.specs.ItemTexts.{IsGoodText, IsFirstFault}
+use Rattle.addr_set.specs.ItemTexts.{IsGoodText, IsFirstFlaw}
 use Rattle.addr_set.proofs.ReadingLemmas.{IsItemText-unique}
 use Rattle.list_store.specs.Parts.{HasAddr, AreRead}
 
@@ -81,8 +81,8 @@ AreRead-zip (text ∷ texts) (one ∷ read) h zero d below = (one, h.0)
 AreRead-zip (text ∷ texts) (one ∷ read) h (suc k) d below = AreRead-zip texts read h.1 k d (omega arith)
 
 -- a fault that says less
-pub IsFirstFault-weaker : (Fault Less : List ℕ → Type 0) → ((text : List ℕ) → Fault text → Less text) → (texts : List (List ℕ)) (at : ℕ) → IsFirstFault Fault texts at → IsFirstFault Less texts at
-IsFirstFault-weaker Fault Less weaker texts at h = record {
+pub IsFirstFlaw-weaker : (Fault Less : List ℕ → Type 0) → ((text : List ℕ) → Fault text → Less text) → (texts : List (List ℕ)) (at : ℕ) → IsFirstFlaw Fault texts at → IsFirstFlaw Less texts at
+IsFirstFlaw-weaker Fault Less weaker texts at h = record {
   within = h.within;
   before = h.before;
   here = λ d. weaker (get_or texts at d) (h.here d);

@@ -1,3 +1,4 @@
+-- Working vocabulary, which no public clause cites.
 -- What is kept of a list, so that it is asked without a scan.
 use Rattle.std.specs.Prelude.{◌≡◌, ◌↔◌, ℕ, IsTrue, List, Result, Ok, Err}
 use Rattle.std.specs.List.{list_any}
@@ -6,7 +7,7 @@ use Rattle.edge_base.specs.declared.address.Addr.{Addr}
 use Rattle.edge_fields.specs.declared.kind.Basic.TheVariants as basic
 use Rattle.addr_set.specs.declared.set.AddrSet.{AddrSet}
 use Rattle.addr_set.specs.Sets.{addresses_of}
-use Rattle.addr_set.specs.ItemTexts.{IsRefused, IsFirstFault}
+use Rattle.addr_set.specs.ItemTexts.{IsRefused, IsFirstFlaw}
 use Rattle.list_store.specs.declared.part.ListPart.{ListPart}
 use Rattle.list_store.specs.declared.part.ListFault.{ListFault}
 use Rattle.list_store.specs.declared.part.ListFault.TheVariants as fault
@@ -27,7 +28,7 @@ AreMembersOf part (members.Texts set) =
 -- what is read of the texts of an address list
 abbrev pub ReadsAddrs : List (List ℕ) → ℕ → Result AddrSet ListFault → Type 0
 ReadsAddrs items list (Ok set) = AreRead items × IsAddrSetOf items set
-ReadsAddrs items list (Err (fault.BadListItem place at)) = (place ≡ list) × IsFirstFault IsRefused items at
+ReadsAddrs items list (Err (fault.BadListItem place at)) = (place ≡ list) × IsFirstFlaw IsRefused items at
 ReadsAddrs items list (Err fault.Memory) = Unit {0}
 ReadsAddrs items list (Err other) = ⊥
 

@@ -1,5 +1,5 @@
 -- What named lists have, and which can't be built.
-use Rattle.std.specs.Prelude.{◌≡◌, ℕ, ◌<◌, ◌≤◌, Bool, true, false, IsTrue, List, length, take, slice_index_or}
+use Rattle.std.specs.Prelude.{◌≡◌, ◌≢◌, ℕ, ◌<◌, ◌≤◌, Bool, true, false, IsTrue, List, length, take, slice_index_or}
 use Rattle.std.specs.List.{list_any, All, Any, HoldsAt}
 use Rattle.std.specs.Str.{bytes_eq}
 use Rattle.edge_base.specs.declared.address.Addr.{Addr}
@@ -7,8 +7,10 @@ use Rattle.edge_base.specs.declared.expression.Item.{Item}
 use Rattle.edge_fields.specs.declared.kind.Basic.{Basic}
 use Rattle.edge_fields.specs.declared.kind.Basic.TheVariants as basic
 use Rattle.addr_set.specs.Sets.{holds}
-use Rattle.addr_set.specs.ItemTexts.{IsGoodText, IsRefused, IsFirstFault}
+use Rattle.addr_set.specs.ItemTexts.{IsGoodText, IsRefused, IsFirstFlaw}
 use Rattle.list_store.specs.declared.part.ListPart.{ListPart}
+use Rattle.list_store.specs.declared.part.ListFault.{ListFault}
+use Rattle.list_store.specs.declared.part.ListFault.TheVariants as fault
 
 -- whether a text list has a text
 abbrev pub has_text : List (List ℕ) → List ℕ → Bool
@@ -53,7 +55,7 @@ pub record HasBadItem (at : ℕ) (earlier : List ListPart) (part : ListPart) : T
   pub new_name : is_named earlier part.name ≡ false
   pub few : length part.items ≤ 50000
   pub is_addr : part.kind ≡ basic.Addr
-  pub first : IsFirstFault IsRefused part.items at
+  pub first : IsFirstFlaw IsRefused part.items at
 
 -- the lists before a place have no fault
 abbrev pub AreFineBefore : List ListPart → ℕ → Type 0
@@ -64,6 +66,19 @@ pub record IsFirstList (Fault : List ListPart → ListPart → Type 0) (parts : 
   pub within : list < length parts
   pub before : AreFineBefore parts list
   pub here : (d : ListPart) → Fault (take list parts) (slice_index_or parts list d)
+
+-- what a fault says of the lists; want of memory says nothing
+abbrev pub IsListFault : List ListPart → ListFault → Type 0
+IsListFault parts (fault.DuplicateList list) = IsFirstList IsRepeated parts list
+IsListFault parts (fault.TooManyItems list) = IsFirstList HasTooMany parts list
+IsListFault parts (fault.BadListItem list at) = IsFirstList (HasBadItem at) parts list
+IsListFault parts fault.Memory = Unit {0}
+
+-- lists with a fault other than want of memory aren't all fine, and have no other such fault
+abbrev pub ListFaultsAreUnique : Type 0
+ListFaultsAreUnique =
+    (parts : List ListPart) (a : ListFault) → a ≢ fault.Memory → IsListFault parts a
+    → ¬ (AreFineBefore parts (length parts)) × ((b : ListFault) → b ≢ fault.Memory → IsListFault parts b → a ≡ b)
 
 -- there is a list at this place, and it has the kind
 pub record IsListOf (parts : List ListPart) (list : ℕ) (kind : Basic) : Type 0 where

@@ -6,5 +6,5 @@ mod lists;
 mod members;
 mod part;
 
-pub use lists::Lists;
+pub use lists::{Lists, list_faults_are_unique};
 pub use part::{ListFault, ListPart, ListParts};

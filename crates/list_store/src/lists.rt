@@ -1,6 +1,8 @@
 ghost use Rattle.std.specs.Prelude.{◌≡◌, ◌↔◌, ℕ, ◌<◌, ◌^◌, IsTrue, length, IfOk, Err};
-ghost use Rattle.std.specs.List.{All, AllZip, HoldsAt};
-ghost use Rattle.list_store.specs.Parts.{IsListKind, IsListOf, IsRepeated, HasTooMany, HasBadItem, IsFirstList, AreFineBefore, has_text, HasAddr};
+ghost use Rattle.std.specs.List.{All, AllZip, HoldsAt, IsDistinct};
+ghost use Rattle.std.specs.Str.{bytes_eq};
+ghost use Rattle.list_store.specs.Parts.{IsListKind, IsListOf, IsRepeated, HasTooMany, HasBadItem, IsFirstList, AreFineBefore, has_text, HasAddr, ListFaultsAreUnique};
+ghost use Rattle.list_store.specs.Listed.{names_of, CanBeTold};
 ghost use Rattle.list_store.specs.Members.{AreMembersOf};
 
 use crate::members::Members;
@@ -92,7 +94,20 @@ impl Lists {
             Members::Addrs(_) => unreachable!(),
         }
     }
+
+    /// A law: where no two lists have one name, something tells which values each of them has.
+    pub fn are_told(&self)
+        ensures { IsDistinct bytes_eq (names_of self.now) → CanBeTold self.now }
+    {
+        // The members that were kept tell it.
+        let _members = &self.members;
+    }
 }
+
+/// A law: the causes of a refusal exclude one another, and so do refusal and success.
+pub fn list_faults_are_unique()
+    ensures { ListFaultsAreUnique }
+{}
 
 #[cfg(test)]
 mod tests;

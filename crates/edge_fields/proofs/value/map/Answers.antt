@@ -9,7 +9,7 @@ loop-key-preserved c =
     let pair : List ℕ × List ℕ = (c.in-Some.key, c.in-Some.value) in
     record {
       taken =
-          c.in_ok-add.ensures
+          c.in_ok-add.ensures.ok
           ∙ ap (λ entries. with_value entries c.in-Some.key c.in-Some.value) c.loop-key.invariant.taken
           ∙ sym (map_of_push seen c.in-Some.key c.in-Some.value);
       left =

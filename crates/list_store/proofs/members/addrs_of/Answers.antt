@@ -1,7 +1,7 @@
 use Rattle.std.proofs.Common.{Err, refl, ap, sym, ◌∙◌}
 use Rattle.addr_set.specs.ItemTexts.{IsRefused, IsLongPrefix, IsBackward}
 use Rattle.addr_set.proofs.ReadingLemmas.{IsRefused-long_prefix, IsRefused-backward}
-use Rattle.list_store.proofs.SetLemmas.{has_addr-texts, AreRead-zip, IsFirstFault-weaker}
+use Rattle.list_store.proofs.SetLemmas.{has_addr-texts, AreRead-zip, IsFirstFlaw-weaker}
 use Rattle.list_store.proofs.members.addrs_of.Goals as goal
 
 pub returns-in_ok-build-in-Ok : goal.returns-in_ok-build-in-Ok
@@ -18,9 +18,9 @@ returns-in_ok-build-in-Ok c =
 pub returns-in-Err-BadPrefix : goal.returns-in-Err-BadPrefix
 returns-in-Err-BadPrefix c =
     let first = c.in-Err-BadPrefix.ensures.bad_prefix c.in-Err-BadPrefix.at (ap Err c.in-Err-BadPrefix.field-0-is) in
-    rw c.in-Err-BadPrefix.at-is (refl, IsFirstFault-weaker IsLongPrefix IsRefused IsRefused-long_prefix c.args.items.now c.in-Err-BadPrefix.at first)
+    rw c.in-Err-BadPrefix.at-is (refl, IsFirstFlaw-weaker IsLongPrefix IsRefused IsRefused-long_prefix c.args.items.now c.in-Err-BadPrefix.at first)
 
 pub returns-in-Err-BackwardRange : goal.returns-in-Err-BackwardRange
 returns-in-Err-BackwardRange c =
     let first = c.in-Err-BackwardRange.ensures.backward_range c.in-Err-BackwardRange.at (ap Err c.in-Err-BackwardRange.field-0-is) in
-    rw c.in-Err-BackwardRange.at-is (refl, IsFirstFault-weaker IsBackward IsRefused IsRefused-backward c.args.items.now c.in-Err-BackwardRange.at first)
+    rw c.in-Err-BackwardRange.at-is (refl, IsFirstFlaw-weaker IsBackward IsRefused IsRefused-backward c.args.items.now c.in-Err-BackwardRange.at first)

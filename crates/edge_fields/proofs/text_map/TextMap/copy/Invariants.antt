@@ -1,6 +1,6 @@
-use Rattle.std.proofs.Common.{◌≡◌, ◌++◌}
+use Rattle.std.proofs.Common.{◌≡◌, take}
 use Rattle.edge_fields.proofs.text_map.TextMap.copy.Given as goal
 
--- what is copied and what is left are the map
+-- the entries so far are copied
 abbrev pub invariant-loop-key : goal.invariant-loop-key
-invariant-loop-key l = l.pairs.entries ++ l.key-iterator ≡ l.self
+invariant-loop-key l = l.map ≡ take l.key-index l.self
