@@ -9,7 +9,8 @@ use Rattle.edge_base.specs.declared.address.Addr.{Addr}
 use Rattle.edge_base.specs.declared.token.TokenKind.{TokenKind}
 use Rattle.edge_base.specs.declared.token.TokenKind.TheVariants as kind
 use Rattle.edge_base.specs.Address.{IsAddrText}
-use Rattle.edge_base.specs.Token.{is_blank, is_digit, is_name_start, is_name_byte, is_name, size_of, number_of, text_of, raw_text_of, list_name_of, is_symbol, symbols, IsBlockText, IsTokenOf}
+use Rattle.edge_base.specs.Spellings.{spellings_of, symbols}
+use Rattle.edge_base.specs.Token.{is_blank, is_digit, is_name_start, is_name_byte, is_name, size_of, number_of, quoted_text_of, raw_text_of, list_name_of, is_symbol, IsBlockText, IsTokenOf}
 use Rattle.expr_lexer.specs.declared.scanner.State.{State}
 use Rattle.expr_lexer.specs.Scan.{kind_from, with_next, first_of, is_address_byte}
 use Rattle.expr_lexer.specs.Fronts.{is_scanned, kind_of_name}
@@ -96,7 +97,7 @@ number_byte_is_no_dot byte h = grind (arith, nat_tests)
 
 -- ---- the other kinds, by their first byte
 
-pub text_begins : (text : List ℕ) → IsSome (text_of text) → begins_with (λ byte. byte == 34) text ≡ true
+pub text_begins : (text : List ℕ) → IsSome (quoted_text_of text) → begins_with (λ byte. byte == 34) text ≡ true
 text_begins [] h = absurd (cc)
 text_begins (byte ∷ text) h = true_from_ne_false (byte == 34) (λ other. let bad : false ≡ true = rw other at h in cc)
 
@@ -109,10 +110,10 @@ list_name_begins [] h = absurd (cc)
 list_name_begins (byte ∷ text) h = true_from_ne_false (byte == 36) (λ other. let bad : false ≡ true = rw other at h in cc)
 
 symbol_has_no_sign : (text : List ℕ) → is_symbol text ≡ true → list_any is_sign text ≡ false
-symbol_has_no_sign text h = not-true _ (one_passes (λ (t : List ℕ). not (list_any is_sign t)) text symbols h refl)
+symbol_has_no_sign text h = not-true _ (one_passes (λ (t : List ℕ). not (list_any is_sign t)) text (spellings_of symbols) h refl)
 
 symbol_begins_with_no_digit : (text : List ℕ) → is_symbol text ≡ true → begins_with is_digit text ≡ false
-symbol_begins_with_no_digit text h = not-true _ (one_passes (λ (t : List ℕ). not (begins_with is_digit t)) text symbols h refl)
+symbol_begins_with_no_digit text h = not-true _ (one_passes (λ (t : List ℕ). not (begins_with is_digit t)) text (spellings_of symbols) h refl)
 
 unscanned_is_unread : (token_kind : TokenKind) (text : List ℕ) → IsUnscanned text → Shape token_kind text → ⊥
 unscanned_is_unread kind.Name text h shape = elim h.sign [

@@ -8,7 +8,7 @@ use Rattle.std.specs.List.{list_all}
 use Rattle.std.specs.Str.Parse.{digits_value}
 use Rattle.edge_base.specs.declared.token.TokenKind.{TokenKind}
 use Rattle.edge_base.specs.declared.token.TokenKind.TheVariants as kind
-use Rattle.edge_base.specs.Token.{is_digit, is_name_start, is_name_byte, is_name, is_counting, size_of, number_of, quoted_of, text_of, marks_of, raw_text_of, list_name_of, is_symbol}
+use Rattle.edge_base.specs.Token.{is_digit, is_name_start, is_name_byte, is_name, is_counting, size_of, number_of, quoted_of, quoted_text_of, marks_of, raw_text_of, list_name_of, is_symbol}
 use Rattle.expr_lexer.specs.declared.scanner.State.{State}
 use Rattle.expr_lexer.specs.declared.scanner.State.TheVariants as state
 use Rattle.expr_lexer.specs.Scan.{kind_from, first_of, symbol_of, counting_of, leading_digit_of, with_next, is_lone, is_comparison, is_doubled}
@@ -22,7 +22,7 @@ Shape kind.Reserved text = ⊥
 Shape kind.Number text = IsSome (number_of text)
 Shape kind.Address text = ⊥
 Shape kind.Block text = ⊥
-Shape kind.Text text = IsSome (text_of text)
+Shape kind.Text text = IsSome (quoted_text_of text)
 Shape kind.RawText text = IsSome (raw_text_of text)
 Shape kind.ListName text = IsSome (list_name_of text)
 Shape kind.Symbol text = is_symbol text ≡ true

@@ -8,3 +8,4 @@ pub mod KindLemmas
 pub mod LongestLemmas
 pub mod StateLemmas
 pub mod TakenLemmas
+pub mod WholeLemmas

@@ -7,7 +7,8 @@ use Rattle.std.specs.List.{list_all, list_any}
 use Rattle.std.specs.Str.Parse.{digits_value}
 use Rattle.edge_base.specs.declared.token.TokenKind.{TokenKind}
 use Rattle.edge_base.specs.declared.token.TokenKind.TheVariants as kind
-use Rattle.edge_base.specs.Token.{is_digit, is_name_start, is_name, is_reserved, reserved_words, is_counting, size_of, number_of, text_of, raw_text_of, list_name_of, is_symbol, symbols}
+use Rattle.edge_base.specs.Spellings.{spellings_of, reserved_words, symbols}
+use Rattle.edge_base.specs.Token.{is_digit, is_name_start, is_name, is_reserved, is_counting, size_of, number_of, quoted_text_of, raw_text_of, list_name_of, is_symbol}
 use Rattle.expr_lexer.specs.declared.scanner.State.{State}
 use Rattle.expr_lexer.specs.declared.scanner.State.TheVariants as state
 use Rattle.expr_lexer.specs.Scan.{kind_from, counting_of, leading_digit_of, with_next}
@@ -74,7 +75,7 @@ takes_number (byte ∷ text) h = elim (cases_Bool (bytes_eq (byte ∷ text) (cod
   ]
 ]
 
-takes_text : (text : List ℕ) → IsSome (text_of text) → kind_from state.Start text ≡ Some kind.Text
+takes_text : (text : List ℕ) → IsSome (quoted_text_of text) → kind_from state.Start text ≡ Some kind.Text
 takes_text [] h = absurd (cc)
 takes_text (byte ∷ text) h = elim (cases_Bool (byte == 34)) [
   | inl quote ↦ rw (eqb-true byte 34 quote) ((in_text text).quoted ∙ rw (rw quote at h) refl)
@@ -129,11 +130,11 @@ one_passes test text (word ∷ words) h all = let both : (test word ≡ true) ×
 ]
 
 takes_symbol : (text : List ℕ) → is_symbol text ≡ true → kind_from state.Start text ≡ Some kind.Symbol
-takes_symbol text h = one_of (λ (t : List ℕ). kind_from state.Start t ≡ Some kind.Symbol) text symbols h
+takes_symbol text h = one_of (λ (t : List ℕ). kind_from state.Start t ≡ Some kind.Symbol) text (spellings_of symbols) h
     (refl, (refl, (refl, (refl, (refl, (refl, (refl, (refl, (refl, (refl, (refl, (refl, (refl, (refl, (refl, (refl, (refl, (refl, (refl, (refl, tt))))))))))))))))))))
 
 pub reserved_is_name : (text : List ℕ) → is_reserved text ≡ true → is_name text ≡ true
-reserved_is_name text h = one_passes is_name text reserved_words h refl
+reserved_is_name text h = one_passes is_name text (spellings_of reserved_words) h refl
 
 pub scan_takes : (text : List ℕ) (token_kind : TokenKind) → Shape token_kind text → kind_from state.Start text ≡ Some token_kind
 scan_takes text kind.Name h = takes_name text h

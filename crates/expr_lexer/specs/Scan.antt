@@ -6,10 +6,11 @@ use Rattle.edge_base.specs.declared.token.TokenKind.TheVariants as kind
 use Rattle.edge_base.specs.Token.{is_digit, is_name_start, is_name_byte}
 use Rattle.expr_lexer.specs.declared.scanner.State.{State}
 use Rattle.expr_lexer.specs.declared.scanner.State.TheVariants as state
+use Rattle.edge_base.specs.Bytes.{exclamation, quote, number_sign, dollar, ampersand, open_parenthesis, close_parenthesis, star, comma, minus, dot, digit_zero, colon, less, equals, greater, upper_a, upper_f, open_bracket, backslash, close_bracket, caret, lower_a, lower_f, lower_r, open_brace, bar, close_brace, tilde}
 
 -- a byte that an address can hold
 abbrev pub is_address_byte : ℕ → Bool
-is_address_byte byte = is_digit byte || nat_le 97 byte && nat_le byte 102 || nat_le 65 byte && nat_le byte 70 || byte == 58 || byte == 46
+is_address_byte byte = is_digit byte || nat_le lower_a byte && nat_le byte lower_f || nat_le upper_a byte && nat_le byte upper_f || byte == colon || byte == dot
 
 abbrev pub is_other_byte : ℕ → Bool
 is_other_byte byte = not (is_address_byte byte)
@@ -21,22 +22,23 @@ stretch_of text = position_or_len is_other_byte (take 45 text)
 abbrev pub digit_of : ℕ → ℕ → ℕ → Option State
 digit_of most size byte =
     cond (is_digit byte)
-    (cond (nat_le (size * 10 + (byte - 48)) most) (Some (state.Digits most (size * 10 + (byte - 48)))) None) None
+    (cond (nat_le (size * 10 + (byte - digit_zero)) most) (Some (state.Digits most (size * 10 + (byte - digit_zero)))) None) None
 
 abbrev pub counting_of : ℕ → ℕ → Option State
-counting_of most byte = cond (byte == 48) None (digit_of most 0 byte)
+counting_of most byte = cond (byte == digit_zero) None (digit_of most 0 byte)
 
 abbrev pub leading_digit_of : ℕ → ℕ → Option State
-leading_digit_of most byte = cond (byte == 48) (Some (state.Whole kind.Number)) (counting_of most byte)
+leading_digit_of most byte = cond (byte == digit_zero) (Some (state.Whole kind.Number)) (counting_of most byte)
 
 abbrev pub is_lone : ℕ → Bool
-is_lone byte = byte == 40 || byte == 41 || byte == 91 || byte == 93 || byte == 123 || byte == 125 || byte == 44 || byte == 42 || byte == 126
+is_lone byte = byte == open_parenthesis || byte == close_parenthesis || byte == open_bracket || byte == close_bracket
+    || byte == open_brace || byte == close_brace || byte == comma || byte == star || byte == tilde
 
 abbrev pub is_doubled : ℕ → Bool
-is_doubled byte = byte == 46 || byte == 38 || byte == 94 || byte == 124 || byte == 61
+is_doubled byte = byte == dot || byte == ampersand || byte == caret || byte == bar || byte == equals
 
 abbrev pub is_comparison : ℕ → Bool
-is_comparison byte = byte == 33 || byte == 60 || byte == 62
+is_comparison byte = byte == exclamation || byte == less || byte == greater
 
 abbrev pub symbol_of : ℕ → Option State
 symbol_of byte =
@@ -45,30 +47,30 @@ symbol_of byte =
 
 abbrev pub first_of : ℕ → Option State
 first_of byte =
-    cond (byte == 114) (Some state.Letter)
+    cond (byte == lower_r) (Some state.Letter)
     (cond (is_name_start byte) (Some state.Part)
     (cond (is_digit byte) (leading_digit_of (2 ^ 63 - 1) byte)
-    (cond (byte == 45) (Some state.Minus)
-    (cond (byte == 34) (Some state.Quoted)
-    (cond (byte == 36) (Some state.Dollar) (symbol_of byte))))))
+    (cond (byte == minus) (Some state.Minus)
+    (cond (byte == quote) (Some state.Quoted)
+    (cond (byte == dollar) (Some state.Dollar) (symbol_of byte))))))
 
 abbrev pub part_of : ℕ → Option State
-part_of byte = cond (byte == 46) (Some state.Dot) (cond (is_name_byte byte) (Some state.Part) None)
+part_of byte = cond (byte == dot) (Some state.Dot) (cond (is_name_byte byte) (Some state.Part) None)
 
 abbrev pub marks_after : ℕ → ℕ → Option State
 marks_after marks byte =
-    cond (byte == 34) (Some (state.Raw marks)) (cond (byte == 35 && nat_lt marks 8) (Some (state.Marks (marks + 1))) None)
+    cond (byte == quote) (Some (state.Raw marks)) (cond (byte == number_sign && nat_lt marks 8) (Some (state.Marks (marks + 1))) None)
 
 abbrev pub raw_of : ℕ → ℕ → State
 raw_of marks byte =
-    cond (byte == 34) (cond (marks == 0) (state.Whole kind.RawText) (state.Closing marks marks)) (state.Raw marks)
+    cond (byte == quote) (cond (marks == 0) (state.Whole kind.RawText) (state.Closing marks marks)) (state.Raw marks)
 
 abbrev pub closing_of : ℕ → ℕ → ℕ → State
 closing_of marks left byte =
-    cond (byte == 35) (cond (nat_le left 1) (state.Whole kind.RawText) (state.Closing marks (left - 1))) (raw_of marks byte)
+    cond (byte == number_sign) (cond (nat_le left 1) (state.Whole kind.RawText) (state.Closing marks (left - 1))) (raw_of marks byte)
 
 abbrev pub quoted_after : ℕ → State
-quoted_after byte = cond (byte == 34) (state.Whole kind.Text) (cond (byte == 92) state.Escaped state.Quoted)
+quoted_after byte = cond (byte == quote) (state.Whole kind.Text) (cond (byte == backslash) state.Escaped state.Quoted)
 
 abbrev pub list_name_after : ℕ → Option State
 list_name_after byte = cond (is_name_byte byte) (Some state.ListName) None
@@ -77,19 +79,19 @@ list_name_after byte = cond (is_name_byte byte) (Some state.ListName) None
 abbrev pub next_of : State → ℕ → Option State
 next_of state.Start byte = first_of byte
 next_of state.Bits byte = leading_digit_of 999 byte
-next_of state.Letter byte = cond (byte == 35) (Some (state.Marks 1)) (cond (byte == 34) (Some (state.Raw 0)) (part_of byte))
+next_of state.Letter byte = cond (byte == number_sign) (Some (state.Marks 1)) (cond (byte == quote) (Some (state.Raw 0)) (part_of byte))
 next_of state.Part byte = part_of byte
 next_of state.Dot byte = cond (is_name_start byte) (Some state.Part) None
 next_of state.Minus byte = counting_of (2 ^ 63) byte
 next_of (state.Digits most size) byte = digit_of most size byte
 next_of state.Quoted byte = Some (quoted_after byte)
-next_of state.Escaped byte = cond (byte == 34 || byte == 92) (Some state.Quoted) None
+next_of state.Escaped byte = cond (byte == quote || byte == backslash) (Some state.Quoted) None
 next_of (state.Marks marks) byte = marks_after marks byte
 next_of (state.Raw marks) byte = Some (raw_of marks byte)
 next_of (state.Closing marks left) byte = Some (closing_of marks left byte)
 next_of state.Dollar byte = list_name_after byte
 next_of state.ListName byte = list_name_after byte
-next_of state.Comparison byte = cond (byte == 61) (Some (state.Whole kind.Symbol)) None
+next_of state.Comparison byte = cond (byte == equals) (Some (state.Whole kind.Symbol)) None
 next_of (state.Half first) byte = cond (byte == first) (Some (state.Whole kind.Symbol)) None
 next_of (state.Whole token_kind) byte = None
 

@@ -10,4 +10,4 @@ mod tests;
 mod tokens;
 
 pub use edge_base::{Token, TokenKind, Tokens};
-pub use tokens::{LexFault, cuts_are_unique, faults_are_unique, lex};
+pub use tokens::{LexFault, cuts_are_unique, faults_are_unique, lex, uncut_have_faults};

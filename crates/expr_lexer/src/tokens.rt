@@ -1,6 +1,6 @@
 ghost use Rattle.std.specs.Prelude.{◌≡◌, ◌<◌, ◌≤◌, length, IfOk, IfErr, MatchOption};
 ghost use Rattle.std.specs.List.{All};
-ghost use Rattle.edge_base.specs.Cut.{IsCut, IsTokenAt, CutsAreUnique, FaultsAreUnique};
+ghost use Rattle.edge_base.specs.Cut.{IsCut, IsTokenAt, CutsAreUnique, FaultsAreUnique, UncutHaveFaults};
 ghost use Rattle.edge_base.specs.declared.token.Token.{Token};
 ghost use Rattle.expr_lexer.specs.Lexed.{IsLexFault};
 
@@ -80,4 +80,9 @@ pub fn cuts_are_unique()
 /// A text with a place of fault has no other, and no cut.
 pub fn faults_are_unique()
     ensures { FaultsAreUnique }
+{}
+
+/// A text without a cut has a place of fault.
+pub fn uncut_have_faults()
+    ensures { UncutHaveFaults }
 {}

@@ -9,7 +9,7 @@ use Rattle.std.specs.Net.Addr.{segments_of}
 use Rattle.std.specs.Net.Grammar.{IsDotted, IsGroup, IsGroupsAfter, IsColonHex}
 use Rattle.edge_base.specs.declared.address.Addr.{Addr}
 use Rattle.edge_base.specs.declared.address.Addr.TheVariants as addr
-use Rattle.edge_base.specs.Address.{number_of, IsAddrText, addr_text}
+use Rattle.edge_base.specs.Address.{number_in_base, IsAddrText, addr_text}
 use Rattle.edge_base.proofs.AddressLemmas.{length-groups, IsAddrText-printed_v4, IsAddrText-printed_v6}
 use Rattle.edge_base.specs.Token.{IsBlockText}
 use Rattle.expr_lexer.proofs.BlockLemmas.{is_slash, block_text}
@@ -60,20 +60,20 @@ each_small [] h k = omega arith
 each_small (segment ∷ segments) h k = elim k as (λ j. get_or (segment ∷ segments) j 0 < 2 ^ 16) [ zero ↦ h.0 | suc j ↦ each_small segments h.1 j ]
 
 eight_small : (a b c d e f g h : ℕ) → a < 2 ^ 16 → b < 2 ^ 16 → c < 2 ^ 16 → d < 2 ^ 16 → e < 2 ^ 16 → f < 2 ^ 16 → g < 2 ^ 16 → h < 2 ^ 16
-    → number_of 65536 (a ∷ b ∷ c ∷ d ∷ e ∷ f ∷ g ∷ h ∷ []) < 2 ^ 128
+    → number_in_base 65536 (a ∷ b ∷ c ∷ d ∷ e ∷ f ∷ g ∷ h ∷ []) < 2 ^ 128
 eight_small a b c d e f g h p q r s t u v w = omega arith
 
-v6_small : (text segments : List ℕ) → IsColonHex text segments → number_of 65536 segments < 2 ^ 128
+v6_small : (text segments : List ℕ) → IsColonHex text segments → number_in_base 65536 segments < 2 ^ 128
 v6_small text segments h =
     let small : AllSegments segments = each_small segments (colon_hex_small text segments h) in
     let items = eight_items segments (length-groups text segments h) in
-    subst (λ (l : List ℕ). number_of 65536 l < 2 ^ 128) (sym items) (eight_small _ _ _ _ _ _ _ _ (small 0) (small 1) (small 2) (small 3) (small 4) (small 5) (small 6) (small 7))
+    subst (λ (l : List ℕ). number_in_base 65536 l < 2 ^ 128) (sym items) (eight_small _ _ _ _ _ _ _ _ (small 0) (small 1) (small 2) (small 3) (small 4) (small 5) (small 6) (small 7))
 
-four_small : (a b c d : ℕ) → a < 256 → b < 256 → c < 256 → d < 256 → number_of 256 (a ∷ b ∷ c ∷ d ∷ []) < 2 ^ 32
+four_small : (a b c d : ℕ) → a < 256 → b < 256 → c < 256 → d < 256 → number_in_base 256 (a ∷ b ∷ c ∷ d ∷ []) < 2 ^ 32
 four_small a b c d p q r s = omega arith
 
-v4_small : (text octets : List ℕ) → IsDotted text octets → number_of 256 octets < 2 ^ 32
-v4_small text octets h = subst (λ (l : List ℕ). number_of 256 l < 2 ^ 32) (sym h.value) (four_small h.a h.b h.c h.d h.fit.0 h.fit.1 h.fit.2 h.fit.3)
+v4_small : (text octets : List ℕ) → IsDotted text octets → number_in_base 256 octets < 2 ^ 32
+v4_small text octets h = subst (λ (l : List ℕ). number_in_base 256 l < 2 ^ 32) (sym h.value) (four_small h.a h.b h.c h.d h.fit.0 h.fit.1 h.fit.2 h.fit.3)
 
 pub address_is_read : (a : Addr) (text : List ℕ) → IsAddrText text a → IsAddrText (addr_text a) a
 address_is_read (addr.V4 n) text h = let small : n < 2 ^ 32 = omega (arith, v4_small text h.0 h.1, h.2) in IsAddrText-printed_v4 n small

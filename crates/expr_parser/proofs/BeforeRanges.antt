@@ -9,7 +9,8 @@ use Rattle.edge_base.specs.declared.terminal.Terminal.TheVariants as terminal
 use Rattle.edge_base.specs.declared.token.TokenKind.{TokenKind}
 use Rattle.edge_base.specs.declared.token.TokenKind.TheVariants as kind
 use Rattle.edge_base.specs.Address.{IsAddrText, addr_text}
-use Rattle.edge_base.specs.Token.{is_digit, number_of, is_symbol, symbols, IsBlockText, IsTokenOf}
+use Rattle.edge_base.specs.Spellings.{spellings_of, symbols}
+use Rattle.edge_base.specs.Token.{is_digit, number_of, is_symbol, IsBlockText, IsTokenOf}
 use Rattle.edge_base.specs.Cut.{IsLongest}
 use Rattle.expr_lexer.proofs.ByteLemmas.{begins_with, begins-append, begins_by, begins_apart, begins_from_all, all_by}
 use Rattle.expr_lexer.proofs.TakenLemmas.{one_passes, reserved_is_name}
@@ -45,7 +46,7 @@ abbrev is_edge_byte : ℕ → Bool
 is_edge_byte byte = is_first_byte byte || byte == 45
 
 symbol_begins : (text : List ℕ) → is_symbol text ≡ true → begins_with is_edge_byte text ≡ false
-symbol_begins text h = not-true _ (one_passes (λ (t : List ℕ). not (begins_with is_edge_byte t)) text symbols h refl)
+symbol_begins text h = not-true _ (one_passes (λ (t : List ℕ). not (begins_with is_edge_byte t)) text (spellings_of symbols) h refl)
 
 -- ---- before `..`
 

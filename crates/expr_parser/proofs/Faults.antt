@@ -11,7 +11,7 @@ use Rattle.edge_base.specs.declared.expression.Expr.{Expr}
 use Rattle.edge_base.specs.declared.expression.Expr.TheVariants as expr
 use Rattle.edge_base.specs.declared.terminal.Terminal.{Terminal}
 use Rattle.edge_base.specs.declared.terminal.Terminal.TheVariants as terminal
-use Rattle.edge_base.specs.Grammar.{Begins, IsFault}
+use Rattle.edge_base.specs.Grammar.{Begins, Derives, IsFault, UnderivedHaveFaults}
 use Rattle.expr_parser.specs.declared.testing.Testing.{Testing}
 use Rattle.expr_parser.specs.declared.testing.Testing.TheVariants as testing
 use Rattle.expr_parser.specs.declared.state.Frame.{Frame}
@@ -153,3 +153,11 @@ refused_is_fault ts q = record {
   stops = λ h. stops_at ts (taken ts start) (taken_refused ts start h);
   none = λ e d. (let p = derived_is_read d in absurd cc);
 }
+
+fault_from : (ts : List Terminal) → ((e : Expr) → ¬ (Derives ts e)) → (o : Option Expr) → outcome ts start ≡ o → (place : ℕ) × IsFault ts place
+fault_from ts none None q = (taken ts start, refused_is_fault ts q)
+fault_from ts none (Some e) q = absurd (none e (read_is_derived ts e q))
+
+-- what derives no tree isn't read
+pub underived_is_fault : UnderivedHaveFaults
+underived_is_fault ts none = fault_from ts none (outcome ts start) refl

@@ -5,11 +5,14 @@ pub mod BeforeRanges
 pub mod BlockBytes
 pub mod CutInto
 pub mod CutTokens
+pub mod DepthLemmas
 pub mod Dots
 pub mod Faults
+pub mod FewestPairs
 pub mod LongestWhere
 pub mod Marks
 pub mod NamesStand
+pub mod NeededPairs
 pub mod NumbersRead
 pub mod OneAnswer
 pub mod PartsNest

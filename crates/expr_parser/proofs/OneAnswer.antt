@@ -32,7 +32,7 @@ one_terminal unique kind.RawText text t u p q = cc
 one_terminal unique kind.ListName text t u p q = cc
 one_terminal unique kind.Symbol text t u p q = cc
 
-same_terminals : AddressIsUnique → (words : List Word) (ts us : List Terminal) → AreTerminals words ts → AreTerminals words us → ts ≡ us
+pub same_terminals : AddressIsUnique → (words : List Word) (ts us : List Terminal) → AreTerminals words ts → AreTerminals words us → ts ≡ us
 same_terminals unique [] [] [] p q = refl
 same_terminals unique [] [] (u ∷ us) p q = absurd q
 same_terminals unique [] (t ∷ ts) us p q = absurd p

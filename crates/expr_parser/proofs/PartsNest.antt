@@ -73,7 +73,7 @@ append_within : {ts us : List Terminal} {h k : ℕ} → Within ts h → Rises us
 append_within {h} {k} w r = record { height = max w.height k; within = both_within w.height h k k w.within (le_refl k); rises = append_rises w.rises r }
 
 -- up to its place a node has no parentheses
-not_above : (place n : ℕ) → n ≤ place → nat_lt place n ≡ false
+pub not_above : (place n : ℕ) → n ≤ place → nat_lt place n ≡ false
 not_above place n q = grind (arith, tests)
 
 grouped_chain : (needed : Bool) {ts : List Terminal} {h : ℕ} → ChainWithin ts h → ChainWithin (grouped needed ts) (h + 1)
@@ -133,7 +133,7 @@ joined_more : {joint : Terminal} {h k : ℕ} → Joins joint → (place : ℕ) (
 joined_more j place e [] some v w = absurd some
 joined_more j place e (f ∷ es) some v w = joined_within j v w
 
-several : (node : List Expr → Expr) (e : Expr) (es : List Expr) → NotEmpty es → together node (e ∷ es) ≡ node (e ∷ es)
+pub several : (node : List Expr → Expr) (e : Expr) (es : List Expr) → NotEmpty es → together node (e ∷ es) ≡ node (e ∷ es)
 several node e [] some = absurd some
 several node e (f ∷ es) some = refl
 

@@ -8,7 +8,7 @@ use Rattle.edge_base.specs.declared.terminal.Terminal.TheVariants as terminal
 use Rattle.edge_base.specs.Grammar.{IsExpression, literal, chain, IsChain, one_xor, more_xors, IsXor, one_and, more_ands, IsAnd, one_unit, more_units, IsUnit, negated, group, untested, tested, IsOperand, true_word, false_word, path, IsPath, name, call, index, key, each, IsArguments, one_argument, more_arguments, Derives}
 use Rattle.edge_base.specs.Nesting.{nesting}
 use Rattle.expr_parser.proofs.TreeTerminals.{terminals_at, terminals_lit, terminals_field, terminals_index, terminals_key, terminals_each, terminals_test}
-use Rattle.expr_parser.proofs.Rises.{ChainRises, end_closes}
+use Rattle.expr_parser.proofs.DepthLemmas.{chain_nesting}
 use Rattle.expr_parser.proofs.PlainTests.{test_prints, plain_one, plain_three, test_rises}
 use Rattle.expr_parser.proofs.PartsNest.{OperandFits, UnitFits, and_node, xor_node, or_node, MemberFits, ListFits, ArgumentsFit, fits_member, unit_member, one_member, more_members, negated_fits, group_fits, operand_unit, followed_fits, plain_fits, literal_fits, call_fits, one_fits, more_fit}
 
@@ -50,9 +50,6 @@ mutual
   arguments_fit : {ts : List Terminal} {es : List Expr} → IsArguments ts es → ArgumentsFit ts es
   arguments_fit (one_argument d) = one_fits (expression_fits d)
   arguments_fit (more_arguments d ds) = more_fit (expression_fits d) (arguments_fit ds)
-
-chain_nesting : {ts : List Terminal} {h : ℕ} → ChainRises ts h → nesting ts ≡ h
-chain_nesting {ts} {h} r = ap nesting (sym (append-nil ts)) ∙ r.scan [] [] end_closes ∙ omega arith
 
 pub printed_nests_no_deeper : (ts : List Terminal) (e : Expr) → Derives ts e → nesting (terminals_at e 0) ≤ nesting ts
 printed_nests_no_deeper ts e d =

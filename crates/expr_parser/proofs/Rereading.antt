@@ -6,6 +6,7 @@ use Rattle.expr_parser.specs.Parsed.{IsTokenized, IsAnswer, AnswersAreUnique}
 use Rattle.expr_parser.specs.Spelling.{spelling}
 use Rattle.expr_parser.specs.Reread.{IsReadAs, IsReadAgain, SpellingsAreParsedAgain}
 use Rattle.expr_parser.proofs.CutInto.{cut_of}
+use Rattle.expr_parser.proofs.FewestPairs.{printed_opens_fewest}
 use Rattle.expr_parser.proofs.PrintedDerives.{printed_derives}
 use Rattle.expr_parser.proofs.PrintedNests.{printed_nests_no_deeper}
 use Rattle.expr_parser.proofs.PrintedTrees.{printed_is_cut_into}
@@ -20,6 +21,7 @@ spelling_is_read e text terminals read =
       own = terminals_at e 0;
       is_read = record { tokens = found.0; is_cut = found.1; are_terminals = found.2; derives = printed_derives terminals e read.derives };
       no_deeper = printed_nests_no_deeper terminals e read.derives;
+      no_more = printed_opens_fewest terminals e read.derives;
     }
 
 spelling_is_answer : (text : List ℕ) (e : Expr) → IsAnswer text (Ok e) → length (spelling e) ≤ 4096 → IsAnswer (spelling e) (Ok e)

@@ -10,9 +10,10 @@ use Rattle.edge_base.specs.declared.terminal.Terminal.TheVariants as terminal
 use Rattle.edge_base.specs.declared.token.Token.{Token}
 use Rattle.edge_base.specs.declared.token.TokenKind.{TokenKind}
 use Rattle.edge_base.specs.declared.token.TokenKind.TheVariants as kind
-use Rattle.edge_base.specs.Token.{number_of, text_of, raw_text_of, list_name_of, is_name_byte, IsTokenOf, words_of}
+use Rattle.edge_base.specs.Token.{number_of, quoted_text_of, raw_text_of, list_name_of, is_name_byte, IsTokenOf, words_of}
 use Rattle.edge_base.specs.Cut.{IsCutBetween, IsCut}
-use Rattle.edge_base.specs.Terminal.{Spelling, spelled, joining_words, order_words, test_words, truth_words, brackets, marks, joining_signs, order_signs, test_signs, IsTerminalOf, AreTerminals}
+use Rattle.edge_base.specs.Spellings.{Spelling, reserved_words, symbols}
+use Rattle.edge_base.specs.Terminal.{spelled, IsTerminalOf, AreTerminals}
 use Rattle.expr_parser.proofs.Written.{IsSound, AreSound}
 
 abbrev AreSoundSpellings : List Spelling → Type 0
@@ -54,16 +55,16 @@ list_name_is_sound (byte ∷ text) t h =
 sound_terminal : (k : TokenKind) (text : List ℕ) (t : Terminal) → IsTokenOf k text → IsTerminalOf k text t → IsSound t
 sound_terminal kind.Name text t token h = subst IsSound (sym h) token
 sound_terminal kind.Reserved text t token h =
-    spelled_is_sound (joining_words ++ (order_words ++ (test_words ++ truth_words))) text t
+    spelled_is_sound reserved_words text t
     (tt, (tt, (tt, (tt, (tt, (tt, (tt, (tt, (tt, (tt, (tt, (tt, (tt, (tt, (tt, (tt, (tt, tt))))))))))))))))) h
 sound_terminal kind.Number text t token h = number_is_sound text t (number_of text) refl h
 sound_terminal kind.Address text t token h = subst IsSound (sym h.2) (text, h.1)
 sound_terminal kind.Block text t token h = subst IsSound (sym h.3) (text, h.2)
-sound_terminal kind.Text text t token h = text_is_sound t (text_of text) h
+sound_terminal kind.Text text t token h = text_is_sound t (quoted_text_of text) h
 sound_terminal kind.RawText text t token h = text_is_sound t (raw_text_of text) h
 sound_terminal kind.ListName text t token h = list_name_is_sound text t h
 sound_terminal kind.Symbol text t token h =
-    spelled_is_sound (brackets ++ (marks ++ (joining_signs ++ (order_signs ++ test_signs)))) text t
+    spelled_is_sound symbols text t
     (tt, (tt, (tt, (tt, (tt, (tt, (tt, (tt, (tt, (tt, (tt, (tt, (tt, (tt, (tt, (tt, (tt, (tt, (tt, (tt, tt)))))))))))))))))))) h
 
 sound_between : (text : List ℕ) (start end : ℕ) (tokens : List Token) (ts : List Terminal) → IsCutBetween text start end tokens → AreTerminals (words_of text tokens) ts

@@ -3,7 +3,8 @@ use Rattle.std.proofs.Common.{◌≡◌, ℕ, Bool, true, false, cond, List, [],
 use Rattle.std.specs.declared.option.Option.{Option}
 use Rattle.std.specs.declared.option.Option.TheVariants.{None, Some}
 use Rattle.edge_base.specs.declared.terminal.Terminal.{Terminal}
-use Rattle.edge_base.specs.Terminal.{Spelling, spelled}
+use Rattle.edge_base.specs.Spellings.{Spelling}
+use Rattle.edge_base.specs.Terminal.{spelled}
 
 first_by : (here : Bool) (x t : Terminal) (rest more : Option Terminal) → cond here (Some x) rest ≡ Some t → (rest ≡ Some t → more ≡ Some t) → cond here (Some x) more ≡ Some t
 first_by true x t rest more h k = h

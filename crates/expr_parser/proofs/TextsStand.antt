@@ -4,7 +4,7 @@ use Rattle.std.proofs.lemmas.Bool.{cases_Bool, or_parts}
 use Rattle.edge_base.specs.declared.terminal.Terminal.TheVariants as terminal
 use Rattle.edge_base.specs.declared.token.TokenKind.{TokenKind}
 use Rattle.edge_base.specs.declared.token.TokenKind.TheVariants as kind
-use Rattle.edge_base.specs.Token.{quoted_of, text_of, IsTokenOf}
+use Rattle.edge_base.specs.Token.{quoted_of, quoted_text_of, IsTokenOf}
 use Rattle.expr_lexer.specs.declared.scanner.State.{State}
 use Rattle.expr_lexer.specs.declared.scanner.State.TheVariants as state
 use Rattle.expr_lexer.specs.Scan.{next_of, kind_in, kind_from}
@@ -24,7 +24,7 @@ escaped_reads (byte ∷ text) = elim (cases_Bool (byte == 34 || byte == 92)) [
   | inr other ↦ let both = or_parts (byte == 34) (byte == 92) other in rw (other, both.0, both.1) (ap (option_map (λ (bytes : List ℕ). byte ∷ bytes)) (escaped_reads text))
 ]
 
-quoted_reads : (text : List ℕ) → text_of (quoted text) ≡ Some text
+quoted_reads : (text : List ℕ) → quoted_text_of (quoted text) ≡ Some text
 quoted_reads text = escaped_reads text
 
 -- ---- nothing goes on past the closing quote

@@ -1,3 +1,4 @@
+pub mod Depth
 pub mod Machine
 pub mod Parsed
 pub mod Reading

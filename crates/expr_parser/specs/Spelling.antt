@@ -13,18 +13,19 @@ use Rattle.edge_base.specs.declared.expression.Expr.{Expr}
 use Rattle.edge_base.specs.declared.expression.Expr.TheOpen as open_expr
 use Rattle.edge_base.specs.declared.expression.Expr.TheFolds.{fold-Expr}
 use Rattle.edge_base.specs.Address.{addr_text}
+use Rattle.edge_base.specs.Bytes.{space, quote, minus, backslash}
 
 -- the bytes of a text between its quotes
 abbrev pub escaped_text : List ℕ → List ℕ
 escaped_text [] = []
-escaped_text (byte ∷ text) = cond (byte == 34 || byte == 92) (92 ∷ byte ∷ []) (byte ∷ []) ++ escaped_text text
+escaped_text (byte ∷ text) = cond (byte == quote || byte == backslash) (backslash ∷ byte ∷ []) (byte ∷ []) ++ escaped_text text
 
 abbrev pub quoted : List ℕ → List ℕ
-quoted text = 34 ∷ escaped_text text ++ 34 ∷ []
+quoted text = quote ∷ escaped_text text ++ quote ∷ []
 
 abbrev pub signed : ℤ → List ℕ
 signed (pos n) = decimal n
-signed (negsuc n) = 45 ∷ decimal (suc n)
+signed (negsuc n) = minus ∷ decimal (suc n)
 
 abbrev pub truth_word : Bool → List ℕ
 truth_word true = codes "true"
@@ -53,7 +54,7 @@ item_spelling (item.Block a bits) = addr_text a ++ codes "/" ++ decimal bits
 -- each item, with a blank behind it
 abbrev pub items_spelling : List Item → List ℕ
 items_spelling [] = []
-items_spelling (i ∷ items) = item_spelling i ++ 32 ∷ items_spelling items
+items_spelling (i ∷ items) = item_spelling i ++ space ∷ items_spelling items
 
 abbrev pub test_spelling : Test → List ℕ
 test_spelling (test.Order o l) = order_word o ++ codes " " ++ lit_spelling l

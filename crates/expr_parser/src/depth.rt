@@ -1,5 +1,6 @@
 ghost use Rattle.std.specs.Prelude.{◌≡◌, IfOk};
 ghost use Rattle.edge_base.specs.Nesting.{nesting};
+ghost use Rattle.expr_parser.specs.Depth.{NestingIsDepth};
 
 use crate::stack::Stack;
 use edge_base::{Memory, Terminal};
@@ -40,3 +41,8 @@ pub fn nesting(alloc: Global, terminals: &[Terminal]) -> Result<usize, Memory>
     }
     Ok(deepest)
 }
+
+/// A law: terminals that derive a tree nest as deep as groups, calls and `not`s stand one inside the other in it.
+pub fn nesting_is_depth()
+    ensures { NestingIsDepth }
+{}

@@ -6,8 +6,8 @@ mod chains;
 mod depth;
 mod grammar;
 mod levels;
+mod machine;
 mod numbers;
-mod paths;
 mod phrases;
 mod printer;
 mod reading;
@@ -18,9 +18,10 @@ mod terminals;
 mod testing;
 mod texts;
 
+pub use depth::nesting_is_depth;
 pub use grammar::{ParseFault, answers_are_unique, parse};
-pub use printer::{print, prints_are_parsed_again};
-pub use reading::{derivations_are_unique, faults_are_unique};
+pub use printer::{pairs_are_needed, print, prints_are_parsed_again};
+pub use reading::{derivations_are_unique, faults_are_unique, underived_have_faults};
 
 #[cfg(test)]
 mod tests;

@@ -1,10 +1,11 @@
 ghost use Rattle.std.specs.Prelude.{◌≡◌, ◌+◌, ◌≤◌, ◌++◌, map, nat_lt, codes, IfOk, OnOk};
 ghost use Rattle.expr_parser.specs.Spelling.{joined, within, spelling_at, spelling};
-ghost use Rattle.expr_parser.specs.Reread.{IsReadAgain, SpellingsAreParsedAgain};
+ghost use Rattle.expr_parser.specs.Reread.{IsReadAgain, SpellingsAreParsedAgain, PairsAreNeeded};
 
 use crate::grammar::answers_are_unique;
 use crate::phrases::{push_lit, push_quoted, push_signed, push_test};
-use edge_base::{Expr, Memory, Text, TextBuilder};
+use edge_base::{Expr, Memory, Text, TextBuilder, address_is_unique};
+use expr_lexer::cuts_are_unique;
 use std::alloc::Global;
 
 /// Members of a chain or arguments of a call, joined.
@@ -99,7 +100,8 @@ fn push_expr(alloc: Global, out: &mut TextBuilder, expr: &Expr, tightness: u8) -
     }
 }
 
-/// The one spelling of a tree. Where some text is read as the tree, so is its print, which nests no deeper.
+/// The one spelling of a tree. Where some text is read as the tree, so is its print, which nests no deeper and has no
+/// more parentheses.
 pub fn print(alloc: Global, expr: &Expr) -> Result<Text, Memory>
     ensures spelling { IfOk result (λ text. text ≡ spelling expr.now) }
     ensures again { IfOk result (λ text. IsReadAgain text expr.now) }
@@ -114,4 +116,12 @@ pub fn prints_are_parsed_again()
     ensures { SpellingsAreParsedAgain }
 {
     answers_are_unique();
+}
+
+/// A law: a print without one of its pairs of parentheses is read as another tree or as none.
+pub fn pairs_are_needed()
+    ensures { PairsAreNeeded }
+{
+    address_is_unique();
+    cuts_are_unique();
 }

@@ -1,10 +1,10 @@
 ghost use Rattle.std.specs.Prelude.{◌≡◌, IfOk, is_some, MatchOption};
-ghost use Rattle.edge_base.specs.Grammar.{Derives, IsFault, DeriveAtMostOne, HaveOneFault};
+ghost use Rattle.edge_base.specs.Grammar.{Derives, IsFault, DeriveAtMostOne, HaveOneFault, UnderivedHaveFaults};
 ghost use Rattle.expr_parser.specs.Machine.{bare_mode, bared};
 ghost use Rattle.expr_parser.specs.Reading.{IsReading};
 
 use crate::levels::{fresh, start};
-use crate::paths::{ended, step};
+use crate::machine::{ended, step};
 use crate::state::{Mode, State};
 use edge_base::{Expr, Lit, Memory, Terminal};
 use std::alloc::Global;
@@ -95,4 +95,9 @@ pub fn derivations_are_unique()
 /// Terminals go wrong at one place.
 pub fn faults_are_unique()
     ensures { HaveOneFault }
+{}
+
+/// Terminals that derive no tree go wrong at some place.
+pub fn underived_have_faults()
+    ensures { UnderivedHaveFaults }
 {}

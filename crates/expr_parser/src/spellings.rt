@@ -1,5 +1,6 @@
 ghost use Rattle.std.specs.Prelude.{◌≡◌, bytes_eq};
-ghost use Rattle.edge_base.specs.Terminal.{spelled, joining_words, order_words, test_words, truth_words, brackets, marks, joining_signs, order_signs, test_signs, reserved, symbol};
+ghost use Rattle.edge_base.specs.Spellings.{joining_words, order_words, test_words, truth_words, brackets, marks, joining_signs, order_signs, test_signs};
+ghost use Rattle.edge_base.specs.Terminal.{spelled, reserved, symbol};
 
 use edge_base::{Order, Terminal};
 

@@ -6,7 +6,7 @@ ghost use Rattle.expr_parser.specs.Parsed.{AreTokensOf};
 
 use crate::numbers::{bits_of, number_of};
 use crate::spellings::{reserved, symbol};
-use crate::texts::{list_name_of, raw_text_of, text_of};
+use crate::texts::{list_name_of, quoted_text_of, raw_text_of};
 use edge_base::{Memory, Terminal, Text, Token, TokenKind, parse_addr};
 use std::alloc::Global;
 
@@ -88,7 +88,7 @@ fn quoted(alloc: Global, text: &[u8]) -> Result<Terminal, Memory>
     requires { IsTokenOf TokenKind.Text text.now }
     ensures { IfOk result (λ t. IsTerminalOf TokenKind.Text text.now t) }
 {
-    let Some(bytes) = text_of(alloc, text)? else {
+    let Some(bytes) = quoted_text_of(alloc, text)? else {
         unreachable!();
     };
     Ok(Terminal::Text(bytes))

@@ -123,7 +123,7 @@ fn texts_have_these_faults(rt: HostRuntime) {
 }
 
 /// A text of these pieces, the middle one so many times.
-fn text_of(
+fn repeated(
     rt: &HostRuntime,
     first: &str,
     piece: &str,
@@ -156,15 +156,15 @@ fn limits_are_exact(rt: HostRuntime) -> Result<(), Fail> {
         ("", "(", 1000, "a", Some(ParseFault::Syntax { at: 1001 })),
         ("a", "[0]", 1365, "", None),
     ] {
-        let text = text_of(&rt, first, piece, times, last)?;
+        let text = repeated(&rt, first, piece, times, last)?;
         assert_eq!(rt;
             parse(rt.alloc(), text.as_slice()).err(),
             want,
             "{times} {piece}"
         );
     }
-    let mut nested = text_of(&rt, "", "(", 32, "ssl")?;
-    nested.extend_from_slice(text_of(&rt, "", ")", 32, "")?.as_slice())?;
+    let mut nested = repeated(&rt, "", "(", 32, "ssl")?;
+    nested.extend_from_slice(repeated(&rt, "", ")", 32, "")?.as_slice())?;
     assert!(rt; parse(rt.alloc(), nested.as_slice()).is_ok());
     nested.insert(0, b'(')?;
     nested.push(b')')?;

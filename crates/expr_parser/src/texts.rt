@@ -1,6 +1,6 @@
 ghost use Rattle.std.specs.Prelude.{◌≡◌, ◌==◌, false, nat_eq, replicate, IfOk};
 ghost use Rattle.std.specs.List.{list_all, starts_with, prefix_len};
-ghost use Rattle.edge_base.specs.Token.{is_name_byte, quoted_of, text_of, raw_bytes_of, marks_of, raw_text_of, list_name_of};
+ghost use Rattle.edge_base.specs.Token.{is_name_byte, quoted_of, quoted_text_of, raw_bytes_of, marks_of, raw_text_of, list_name_of};
 
 use edge_base::{Memory, Text};
 use std::alloc::Global;
@@ -36,8 +36,8 @@ fn quoted_of(alloc: Global, text: &[u8]) -> Result<Option<Text>, Memory>
 }
 
 /// The bytes that a text in `"` stands for.
-pub fn text_of(alloc: Global, text: &[u8]) -> Result<Option<Text>, Memory>
-    ensures { IfOk result (λ found. found ≡ text_of text.now) }
+pub fn quoted_text_of(alloc: Global, text: &[u8]) -> Result<Option<Text>, Memory>
+    ensures { IfOk result (λ found. found ≡ quoted_text_of text.now) }
 {
     match text.split_first() {
         Some((&first, rest)) if first == b'"' => quoted_of(alloc, rest),

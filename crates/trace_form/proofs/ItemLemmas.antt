@@ -1,17 +1,16 @@
 -- A line is at most one item, with one value, and what it is can be told of each line.
-use Rattle.std.proofs.Common.{◌≡◌, ℕ, ◌==◌, ◌⊎◌, inl, inr, Bool, true, false, cond, List, [], ◌∷◌, Option, Some, None, refl, sym, ◌∙◌, ap, subst, append-nil, codes, lit≤, arith}
+use mathlib.Core.HLevel.{is_prop→PathP}
+use Rattle.std.proofs.Math.Bridge.{le_prop}
+use Rattle.std.proofs.Common.{◌≡◌, ◌≤◌, ℕ, ◌==◌, ◌⊎◌, inl, inr, Bool, true, false, cond, List, [], ◌∷◌, Option, Some, None, refl, sym, ◌∙◌, ap, subst, append-nil, codes, lit≤, arith}
 use Rattle.std.specs.Option.{option_map_or}
 use Rattle.std.specs.Str.{is_utf8}
 use Rattle.std.proofs.lemmas.Bool.{both_ways, eqb-true}
 use Rattle.std.proofs.lemmas.Option.{none-some, same_Some}
 use Rattle.std.proofs.lemmas.Str.{IsUtf8-from_is_utf8, is_utf8-from_IsUtf8}
-use Rattle.std.specs.declared.net.ipv4_addr.Ipv4Addr.{Ipv4Addr}
-use Rattle.std.specs.Net.Addr.{ipv4_octets, ipv4_bits}
-use Rattle.std.specs.Net.Grammar.{IsDotted, IsIpv4Text}
-use Rattle.std.specs.Net.Reader.{read_ipv4}
-use Rattle.std.proofs.NetLemmas.Ipv4.{read_ipv4_complete, read_ipv4_sound}
-use Rattle.edge_base.specs.Address.{IsAddrText}
-use Rattle.edge_base.proofs.AddressLemmas.{IsAddrText-ipv4, IsAddrText-unique}
+use Rattle.std.specs.Net.Grammar.{IsDotted}
+use Rattle.edge_base.specs.Address.{number_in_base, IsAddrText}
+use Rattle.edge_base.proofs.AddressLemmas.{IsAddrText-unique}
+use Rattle.edge_base.proofs.FoundLemmas.{Found, found-dotted}
 use Rattle.serde_json.specs.Data.{Data, Members}
 use Rattle.serde_json.specs.Read.{read}
 use Rattle.serde_json.specs.Find.{as_object}
@@ -89,17 +88,14 @@ IsRequest-unique value a b is_a is_b =
     let ssl = is_a.ssl ∙ sym is_b.ssl in
     let minor = is_a.minor ∙ sym is_b.minor in
     let body = is_a.body ∙ sym is_b.body in
-    λ i. record { at = at i; from = from i; ssl = ssl i; method = method i; target = target i; minor = minor i; headers = headers i; body = body i }
+    let within = is_prop→PathP (λ i. minor i ≤ 1) (λ i. le_prop) a.within b.within in
+    λ i. record { at = at i; from = from i; ssl = ssl i; method = method i; target = target i; minor = minor i; headers = headers i; body = body i; within = within i }
 
 pub IsAsk-unique : (line : List ℕ) (a b : Request) → IsAsk line a → IsAsk line b → a ≡ b
 IsAsk-unique line a b is_a is_b =
     IsRequest-unique is_a.value a b is_a.ask (request-of_line line is_a.value b is_a.json is_b)
 
 -- ---- what a line is
-
--- some value has the property, or none has it
-abbrev Found : {A : Type 0} → (A → Type 0) → Type 0
-Found {A} P = ((x : A) × P x) ⊎ ((x : A) → ¬ (P x))
 
 found-json : (line : List ℕ) → Found (IsJson line)
 found-json line = of_test (is_utf8 line) refl (read line) refl where
@@ -108,35 +104,14 @@ found-json line = of_test (is_utf8 line) refl (read line) refl where
   of_test true is_valid None is_none = inr (λ d json. none-some d (sym is_none ∙ json.1))
   of_test true is_valid (Some value) is_value = inl (value, (IsUtf8-from_is_utf8 line is_valid, is_value))
 
-whole_ipv4 : (text : List ℕ) (a : Ipv4Addr) → IsIpv4Text text a → read_ipv4 text ≡ Some (ipv4_octets a, [])
-whole_ipv4 text a is_text =
-    subst (λ whole. read_ipv4 whole ≡ Some (ipv4_octets a, [])) (append-nil text) (read_ipv4_complete text (ipv4_octets a) [] is_text (lit≤ tt))
-
-none-ipv4 : (text : List ℕ) (found : Option (List ℕ × List ℕ)) → read_ipv4 text ≡ found → ((octets : List ℕ) → ¬ (found ≡ Some (octets, []))) → Found (IsIpv4Text text)
-none-ipv4 text found is_found none = inr (λ a is_text. none (ipv4_octets a) (sym is_found ∙ whole_ipv4 text a is_text))
-
-some-ipv4 : (text octets : List ℕ) → read_ipv4 text ≡ Some (octets, []) → Found (IsIpv4Text text)
-some-ipv4 text octets is_found =
-    let (front, is_text, is_dotted) = read_ipv4_sound text octets [] is_found in
-    inl (record { octets = octets }, subst (λ whole. IsDotted whole octets) (sym (is_text ∙ append-nil front)) is_dotted)
-
-found-ipv4 : (text : List ℕ) → Found (IsIpv4Text text)
-found-ipv4 text = of_read (read_ipv4 text) refl where
-  of_read : (found : Option (List ℕ × List ℕ)) → read_ipv4 text ≡ found → Found (IsIpv4Text text)
-  of_read None is_found = none-ipv4 text None is_found (λ octets e. none-some (octets, []) e)
-  of_read (Some (octets, [])) is_found = some-ipv4 text octets is_found
-  of_read (Some (octets, byte ∷ rest)) is_found =
-      none-ipv4 text (Some (octets, byte ∷ rest)) is_found (λ others e. let ended = ap (λ p. p.1) (same_Some _ _ e) in cc)
-
 found-peer : (value : Data) → Found (IsPeer value)
 found-peer value = of_text (text_of (codes "ip") value) refl where
-  of_addr : (text : List ℕ) → text_of (codes "ip") value ≡ Some text → Found (IsIpv4Text text) → Found (IsPeer value)
-  of_addr text is_text (inl (a, is_a)) = inl (addr.V4 (ipv4_bits a), (text, is_text, IsAddrText-ipv4 text a is_a))
+  of_addr : (text : List ℕ) → text_of (codes "ip") value ≡ Some text → Found (IsDotted text) → Found (IsPeer value)
+  of_addr text is_text (inl (octets, is)) = inl (addr.V4 (number_in_base 256 octets), (text, is_text, (octets, is, refl)))
   of_addr text is_text (inr none) = inr (λ peer. not_peer peer) where
     not_peer : (peer : Addr) → ¬ (IsPeer value peer)
     not_peer (addr.V4 n) is_n =
-        let a : Ipv4Addr = record { octets = is_n.2.0 } in
-        none a (subst (λ t. IsIpv4Text t a) (same_Some is_n.0 text (sym is_n.1 ∙ is_text)) is_n.2.1)
+        none is_n.2.0 (subst (λ t. IsDotted t is_n.2.0) (same_Some is_n.0 text (sym is_n.1 ∙ is_text)) is_n.2.1)
     not_peer (addr.V6 n) is_n = is_n
 
   of_text : (text : Option (List ℕ)) → text_of (codes "ip") value ≡ text → Found (IsPeer value)
@@ -144,7 +119,7 @@ found-peer value = of_text (text_of (codes "ip") value) refl where
     not_peer : (peer : Addr) → ¬ (IsPeer value peer)
     not_peer (addr.V4 n) is_n = none-some is_n.0 (sym is_none ∙ is_n.1)
     not_peer (addr.V6 n) is_n = is_n
-  of_text (Some text) is_text = of_addr text is_text (found-ipv4 text)
+  of_text (Some text) is_text = of_addr text is_text (found-dotted text)
 
 request-of_parts : (value : Data) (five : Bool) (at : Option ℕ) (peer : Found (IsPeer value)) (method target : Option (List ℕ)) (headers : Option (List Header)) → has_members 5 value ≡ five → moment_of value ≡ at → method_of value ≡ method → target_of value ≡ target → headers_of value ≡ headers → Found (IsRequest value)
 request-of_parts value false at peer method target headers is_five is_at is_method is_target is_headers =
@@ -160,7 +135,7 @@ request-of_parts value true (Some at) (inl (from, is_from)) (Some method) None h
 request-of_parts value true (Some at) (inl (from, is_from)) (Some method) (Some target) None is_five is_at is_method is_target is_headers =
     inr (λ r is. none-some r.headers (sym is_headers ∙ is.headers))
 request-of_parts value true (Some at) (inl (from, is_from)) (Some method) (Some target) (Some headers) is_five is_at is_method is_target is_headers =
-    let request : Request = record { at = at; from = from; ssl = false; method = method; target = target; minor = 1; headers = headers; body = [] } in
+    let request : Request = record { at = at; from = from; ssl = false; method = method; target = target; minor = 1; headers = headers; body = []; within = omega arith } in
     let is_request : IsRequest value request = record { five = is_five; at = is_at; from = is_from; method = is_method; target = is_target; headers = is_headers; ssl = refl; minor = refl; body = refl } in
     inl (request, is_request)
 

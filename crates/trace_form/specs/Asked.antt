@@ -11,6 +11,7 @@ use Rattle.edge_base.specs.declared.address.Addr.{Addr}
 use Rattle.edge_base.specs.declared.address.Addr.TheVariants as addr
 use Rattle.edge_base.specs.Address.{IsAddrText}
 use Rattle.trace_form.specs.Members.{has_members, has_items, text_of, array_of, is_token}
+use Rattle.edge_base.specs.Bytes.{nul, newline, carriage_return, space, delete}
 
 -- when it came: an integer from 0 to 2^53
 abbrev pub moment_of : Data → Option ℕ
@@ -28,9 +29,9 @@ is_method text = nat_le (length text) 32 && is_token text
 abbrev pub method_of : Data → Option (List ℕ)
 method_of value = option_and_then (λ text. then_some (is_method text) text) (text_of (codes "method") value)
 
--- a byte above the blank, and not 0x7F
+-- a byte above the space, and not 0x7F
 abbrev pub is_target_byte : ℕ → Bool
-is_target_byte byte = nat_lt 32 byte && not (byte == 127)
+is_target_byte byte = nat_lt space byte && not (byte == delete)
 
 -- 1 to 16,384 such bytes
 abbrev pub is_target : List ℕ → Bool
@@ -41,7 +42,7 @@ target_of value = option_and_then (λ text. then_some (is_target text) text) (te
 
 -- a text without CR, LF and NUL
 abbrev pub is_header_value : List ℕ → Bool
-is_header_value text = list_all (λ byte. not (byte == 13) && not (byte == 10) && not (byte == 0)) text
+is_header_value text = list_all (λ byte. not (byte == carriage_return) && not (byte == newline) && not (byte == nul)) text
 
 -- the two texts of an array that has two elements
 abbrev pub pair_of : Data → Option (List ℕ × List ℕ)

@@ -10,6 +10,7 @@ use Rattle.trace_form.specs.declared.item.LineItem.{LineItem}
 use Rattle.trace_form.specs.declared.item.LineItem.TheVariants as lineitem
 use Rattle.trace_form.specs.Members.{has_members}
 use Rattle.trace_form.specs.Asked.{IsRequest}
+use Rattle.edge_base.specs.Bytes.{tab, carriage_return, space}
 
 -- at most 1,048,576 bytes
 abbrev pub is_short : List ℕ → Bool
@@ -17,7 +18,7 @@ is_short line = nat_le (length line) 1048576
 
 -- spaces, tabs and CR alone
 abbrev pub is_blank : List ℕ → Bool
-is_blank line = list_all (λ byte. byte == 32 || byte == 9 || byte == 13) line
+is_blank line = list_all (λ byte. byte == space || byte == tab || byte == carriage_return) line
 
 -- the text is UTF-8, and is this JSON value
 abbrev pub IsJson : List ℕ → Data → Type 0

@@ -7,6 +7,7 @@ use Rattle.trace_form.specs.declared.verdict.VerdictKind.TheVariants as kind
 use Rattle.trace_form.specs.declared.refusal.BadCause.{BadCause}
 use Rattle.trace_form.specs.declared.refusal.BadCause.TheVariants as cause
 use Rattle.trace_form.specs.declared.output.LineParts.{LineParts}
+use Rattle.edge_base.specs.Bytes.{newline}
 
 -- the kind of a verdict, with its status
 abbrev pub kind_text : VerdictKind → List ℕ
@@ -48,11 +49,11 @@ judged_text parts = decimal parts.number ++ codes " v" ++ decimal parts.version 
 
 -- the line of a judged request; nothing was counted
 unfoldable pub line : LineParts → List ℕ
-line parts = judged_text parts ++ codes " -" ++ noted_text parts.verdict.noted ++ location_text parts.verdict.kind ++ 10 ∷ []
+line parts = judged_text parts ++ codes " -" ++ noted_text parts.verdict.noted ++ location_text parts.verdict.kind ++ newline ∷ []
 
 -- the line of a deployment that was put in force as this version
 abbrev pub deploy_line : ℕ → List ℕ
-deploy_line version = codes "deploy v" ++ decimal version ++ 10 ∷ []
+deploy_line version = codes "deploy v" ++ decimal version ++ newline ∷ []
 
 -- the printed name of a cause
 abbrev pub cause_name : BadCause → List ℕ
@@ -60,4 +61,4 @@ cause_name cause.Unsupported = codes "Unsupported"
 
 -- the line of an input line that is no item
 abbrev pub bad_line : ℕ → BadCause → List ℕ
-bad_line number cause = codes "bad " ++ decimal number ++ codes " " ++ cause_name cause ++ 10 ∷ []
+bad_line number cause = codes "bad " ++ decimal number ++ codes " " ++ cause_name cause ++ newline ∷ []

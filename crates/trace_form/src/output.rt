@@ -1,4 +1,5 @@
-ghost use Rattle.std.specs.Prelude.{◌≡◌, ◌++◌, IfOk, OnOk};
+ghost use Rattle.std.specs.Prelude.{◌≡◌, ◌++◌, IfOk, OnOk, OnErr};
+ghost use Rattle.std.specs.Io.{StartsWith};
 ghost use Rattle.trace_form.specs.Line.{rule_text, ending_text, names_text, noted_text, kind_text, location_text, judged_text, line, deploy_line, bad_line};
 
 use crate::refusal::BadCause;
@@ -20,7 +21,8 @@ pub struct LineParts {
 
 /// The kind of a verdict, with its status.
 fn push_kind(out: &mut TextBuilder, kind: &VerdictKind) -> Result<(), Memory>
-    ensures { OnOk result (out.new ≡ out.old ++ kind_text kind.now) }
+    ensures ok { OnOk result (out.new ≡ out.old ++ kind_text kind.now) }
+    ensures err { OnErr result (StartsWith out.new out.old) }
 {
     match kind {
         VerdictKind::Pass => out.push(b"pass"),
@@ -38,7 +40,8 @@ fn push_kind(out: &mut TextBuilder, kind: &VerdictKind) -> Result<(), Memory>
 
 /// The name of a rule.
 fn push_rule(out: &mut TextBuilder, name: &RuleName) -> Result<(), Memory>
-    ensures { OnOk result (out.new ≡ out.old ++ rule_text name.now) }
+    ensures ok { OnOk result (out.new ≡ out.old ++ rule_text name.now) }
+    ensures err { OnErr result (StartsWith out.new out.old) }
 {
     out.push(name.set_id.bytes())?;
     out.push(b"/")?;
@@ -47,7 +50,8 @@ fn push_rule(out: &mut TextBuilder, name: &RuleName) -> Result<(), Memory>
 
 /// The rule that ended the judging, or a dash.
 fn push_ending(out: &mut TextBuilder, rule: &Option<RuleName>) -> Result<(), Memory>
-    ensures { OnOk result (out.new ≡ out.old ++ ending_text rule.now) }
+    ensures ok { OnOk result (out.new ≡ out.old ++ ending_text rule.now) }
+    ensures err { OnErr result (StartsWith out.new out.old) }
 {
     match rule {
         Some(name) => push_rule(out, name),
@@ -57,7 +61,8 @@ fn push_ending(out: &mut TextBuilder, rule: &Option<RuleName>) -> Result<(), Mem
 
 /// The names of more rules, each after a comma.
 fn push_names(out: &mut TextBuilder, names: &[RuleName]) -> Result<(), Memory>
-    ensures { OnOk result (out.new ≡ out.old ++ names_text names.now) }
+    ensures ok { OnOk result (out.new ≡ out.old ++ names_text names.now) }
+    ensures err { OnErr result (StartsWith out.new out.old) }
 {
     for name in names {
         out.push(b",")?;
@@ -68,7 +73,8 @@ fn push_names(out: &mut TextBuilder, names: &[RuleName]) -> Result<(), Memory>
 
 /// The rules that were noted, where there are any.
 fn push_noted(out: &mut TextBuilder, names: &[RuleName]) -> Result<(), Memory>
-    ensures { OnOk result (out.new ≡ out.old ++ noted_text names.now) }
+    ensures ok { OnOk result (out.new ≡ out.old ++ noted_text names.now) }
+    ensures err { OnErr result (StartsWith out.new out.old) }
 {
     match names.split_first() {
         Some((first, rest)) => {
@@ -82,7 +88,8 @@ fn push_noted(out: &mut TextBuilder, names: &[RuleName]) -> Result<(), Memory>
 
 /// Where a redirect leads.
 fn push_location(out: &mut TextBuilder, kind: &VerdictKind) -> Result<(), Memory>
-    ensures { OnOk result (out.new ≡ out.old ++ location_text kind.now) }
+    ensures ok { OnOk result (out.new ≡ out.old ++ location_text kind.now) }
+    ensures err { OnErr result (StartsWith out.new out.old) }
 {
     match kind {
         VerdictKind::Redirect { status: _, target } => {
@@ -96,7 +103,8 @@ fn push_location(out: &mut TextBuilder, kind: &VerdictKind) -> Result<(), Memory
 /// How a request was judged, up to its target.
 #[tactic(auto, unfolding(crate::specs::Line::judged_text))]
 fn push_judged(out: &mut TextBuilder, parts: &LineParts) -> Result<(), Memory>
-    ensures { OnOk result (out.new ≡ out.old ++ judged_text parts.now) }
+    ensures ok { OnOk result (out.new ≡ out.old ++ judged_text parts.now) }
+    ensures err { OnErr result (StartsWith out.new out.old) }
 {
     out.push_number(parts.number)?;
     out.push(b" v")?;
@@ -112,7 +120,8 @@ fn push_judged(out: &mut TextBuilder, parts: &LineParts) -> Result<(), Memory>
 /// Writes the line of a judged request.
 #[tactic(auto, unfolding(crate::specs::Line::line))]
 pub fn push_line(out: &mut TextBuilder, parts: &LineParts) -> Result<(), Memory>
-    ensures { OnOk result (out.new ≡ out.old ++ line parts.now) }
+    ensures ok { OnOk result (out.new ≡ out.old ++ line parts.now) }
+    ensures err { OnErr result (StartsWith out.new out.old) }
 {
     push_judged(out, parts)?;
     out.push(b" -")?;
@@ -123,7 +132,8 @@ pub fn push_line(out: &mut TextBuilder, parts: &LineParts) -> Result<(), Memory>
 
 /// Writes the line of a deployment that was put in force as this version.
 pub fn push_deploy_line(out: &mut TextBuilder, version: u64) -> Result<(), Memory>
-    ensures { OnOk result (out.new ≡ out.old ++ deploy_line version) }
+    ensures ok { OnOk result (out.new ≡ out.old ++ deploy_line version) }
+    ensures err { OnErr result (StartsWith out.new out.old) }
 {
     out.push(b"deploy v")?;
     out.push_number(version)?;
@@ -132,7 +142,8 @@ pub fn push_deploy_line(out: &mut TextBuilder, version: u64) -> Result<(), Memor
 
 /// Writes the line of an input line that is no item.
 pub fn push_bad_line(out: &mut TextBuilder, number: u64, cause: BadCause) -> Result<(), Memory>
-    ensures { OnOk result (out.new ≡ out.old ++ bad_line number cause) }
+    ensures ok { OnOk result (out.new ≡ out.old ++ bad_line number cause) }
+    ensures err { OnErr result (StartsWith out.new out.old) }
 {
     out.push(b"bad ")?;
     out.push_number(number)?;

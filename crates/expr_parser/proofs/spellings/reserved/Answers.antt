@@ -1,5 +1,5 @@
 use Rattle.std.proofs.Common.{◌∙◌, ◌++◌, sym}
-use Rattle.edge_base.specs.Terminal.{joining_words, order_words, test_words, truth_words}
+use Rattle.edge_base.specs.Spellings.{joining_words, order_words, test_words, truth_words}
 use Rattle.expr_parser.proofs.Spelled.{spelled_first, spelled_after}
 use Rattle.expr_parser.proofs.spellings.reserved.Goals as goal
 

@@ -1,5 +1,5 @@
 use Rattle.std.proofs.Common.{◌∙◌, ◌++◌, sym}
-use Rattle.edge_base.specs.Terminal.{brackets, marks, joining_signs, order_signs, test_signs}
+use Rattle.edge_base.specs.Spellings.{brackets, marks, joining_signs, order_signs, test_signs}
 use Rattle.expr_parser.proofs.Spelled.{spelled_first, spelled_after}
 use Rattle.expr_parser.proofs.spellings.symbol.Goals as goal
 
