@@ -1,8 +1,10 @@
 use crate::addresses::addresses_found;
+use crate::arguments::{Names, arguments_found};
 use crate::expressions::tokens_found;
 use crate::faults::Fault;
 use crate::texts::texts_found;
 use crate::wildcards::{Shape, matches_found};
+use edge_fields::FieldId;
 use std::alloc::Global;
 
 /// What is called.
@@ -12,16 +14,23 @@ pub enum Bench {
     HasAddr,
     HasText,
     Wild(Shape),
+    /// The map of the arguments.
+    Map(Names),
+    /// The names of the arguments.
+    ArgNames,
 }
 
 /// Every bench.
-const BENCHES: [Bench; 6] = [
+const BENCHES: [Bench; 9] = [
     Bench::Lex,
     Bench::HasAddr,
     Bench::HasText,
     Bench::Wild(Shape::Stars),
     Bench::Wild(Shape::LongEnd),
     Bench::Wild(Shape::LongMiddle),
+    Bench::Map(Names::Spread),
+    Bench::Map(Names::Alike),
+    Bench::ArgNames,
 ];
 
 /// A bench at a size, and how often the call is made.
@@ -33,7 +42,7 @@ pub struct Job {
 }
 
 /// Each bench at a small size.
-pub const SMALL: [Job; 6] = [
+pub const SMALL: [Job; 9] = [
     Job {
         bench: Bench::Lex,
         size: 512,
@@ -64,6 +73,21 @@ pub const SMALL: [Job; 6] = [
         size: 100,
         rounds: 10,
     },
+    Job {
+        bench: Bench::Map(Names::Spread),
+        size: 100,
+        rounds: 10,
+    },
+    Job {
+        bench: Bench::Map(Names::Alike),
+        size: 100,
+        rounds: 10,
+    },
+    Job {
+        bench: Bench::ArgNames,
+        size: 100,
+        rounds: 10,
+    },
 ];
 
 impl Bench {
@@ -75,6 +99,9 @@ impl Bench {
             Bench::Wild(Shape::Stars) => "wild",
             Bench::Wild(Shape::LongEnd) => "wild_long",
             Bench::Wild(Shape::LongMiddle) => "wild_middle",
+            Bench::Map(Names::Spread) => "map",
+            Bench::Map(Names::Alike) => "map_alike",
+            Bench::ArgNames => "names",
         }
     }
 
@@ -109,6 +136,18 @@ impl Job {
             Bench::HasAddr => addresses_found(alloc, self.size, self.rounds),
             Bench::HasText => texts_found(alloc, self.size, self.rounds),
             Bench::Wild(shape) => matches_found(alloc, shape, self.size, self.rounds),
+            Bench::Map(names) => {
+                arguments_found(alloc, FieldId::Args, names, self.size, self.rounds)
+            }
+            Bench::ArgNames => {
+                arguments_found(
+                    alloc,
+                    FieldId::ArgNames,
+                    Names::Spread,
+                    self.size,
+                    self.rounds,
+                )
+            }
         }
     }
 }

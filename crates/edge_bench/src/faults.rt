@@ -77,7 +77,7 @@ impl Fault {
     pub fn said(self) -> &'static str {
         match self {
             Fault::Usage => {
-                "usage: edge_bench lex|has_addr|has_text|wild|wild_long|wild_middle SIZE ROUNDS"
+                "usage: edge_bench lex|has_addr|has_text|wild|wild_long|wild_middle|map|map_alike|names SIZE ROUNDS"
             }
             Fault::Refused => "edge_bench: refused",
             Fault::Write => "edge_bench: write fault",

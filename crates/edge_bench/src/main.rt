@@ -3,6 +3,7 @@
 #![tactic(auto)]
 
 mod addresses;
+mod arguments;
 mod benches;
 mod expressions;
 mod faults;

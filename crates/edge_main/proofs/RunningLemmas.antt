@@ -1,187 +1,226 @@
 -- How a run goes on, and what it has written where it ends.
-use Rattle.std.proofs.Common.{◌≡◌, ℕ, Bool, true, false, cond, List, [], ◌∷◌, ◌++◌, take, drop, Option, Some, refl, sym, ap, subst, ◌∙◌, inl, inr, append_assoc, append-nil, take-append-drop}
-use Rattle.std.specs.Io.KnownBytes.{Appends}
-use Rattle.std.proofs.KnownBytes.{Appends-trans, Appends-nil}
+use Rattle.std.proofs.Common.{◌≡◌, ℕ, Bool, true, false, cond, List, [], ◌∷◌, ◌++◌, take, drop, Option, Some, Result, Ok, Err, OnOk, OnErr, ◌<◌, ◌+◌, ◌^◌, ◌↔◌, ◌⊎◌, ◌≢◌, length, length-append, inl, inr, refl, sym, ap, subst, ◌∙◌, append_assoc, append-nil, take-append-drop}
+use Rattle.std.specs.Io.KnownBytes.{Appends, Consumes}
+use Rattle.std.proofs.KnownBytes.{Appends-trans, Appends-nil, Consumes-trans}
+use Rattle.edge_outside.specs.Lines.{lines_of, NoNewline}
+use Rattle.edge_outside.specs.Reading.{Stands, ahead_of}
 use Rattle.edge_outside.specs.declared.line_reader.LineReader.{LineReader}
-use Rattle.edge_outside.specs.Lines.{lines_of}
-use Rattle.edge_outside.specs.Reading.{Stands, Gives}
-use Rattle.edge_main.specs.declared.run.Run.{Run}
+use Rattle.edge_outside.proofs.LinesLemmas.{NoNewline-append}
+use Rattle.edge_outside.proofs.ReadingLemmas.{NoNewline-past}
 use Rattle.edge_main.specs.declared.statuses.Status.{Status}
 use Rattle.edge_main.specs.declared.statuses.Status.TheVariants as status
 use Rattle.edge_main.specs.declared.replay.Replay.{Replay}
 use Rattle.edge_main.specs.declared.replay.Turn.{Turn}
 use Rattle.edge_main.specs.declared.replay.Turn.TheVariants as turn
-use Rattle.edge_main.specs.Output.{Step, Outputs, IsOutput, AnyBad}
-use Rattle.edge_main.specs.Running.{state_of, LineOf, Progress, TurnOf, WroteBut, WroteOutput, WroteFrontBut, WroteFront, Closing, Ended, IsOpening}
-use Rattle.edge_main.specs.Statuses.{after_write_fault}
-use Rattle.edge_main.proofs.OutputLemmas.{some_output}
+use Rattle.edge_main.specs.declared.replay.RunFault.{RunFault}
+use Rattle.edge_main.specs.declared.replay.RunFault.TheVariants as fault
+use Rattle.edge_main.specs.Answered.{RunState, opening, Answered}
+use Rattle.edge_main.specs.Output.{IsRun, IsOutput, texts_of}
+use Rattle.edge_main.specs.Ended.{WroteOutput, WroteFront, WroteAnswers, IsBegun, WroteWhole, Ended, TookInput, IsJudged}
+use Rattle.edge_main.specs.Running.{TookLine, Reached, Progress, StoppedBy, TurnOf, IsOpening, TookMore, status_of}
+use Rattle.edge_main.proofs.OutputLemmas.{some_run, run-append, texts-append}
 
--- nothing more was appended
-pub Appends-none : (before now after : Option (List ℕ)) (written : List ℕ) → Appends before now written → Appends now after [] → Appends before after written
-Appends-none before now after written begun none =
-    subst (Appends before after) (append-nil written) (Appends-trans before now after written [] begun none)
-
--- an answer and what follows it, where the answer was given
-pub seam : (written pending answer more w after : List ℕ) → w ++ after ≡ pending ++ answer
-    → written ++ (pending ++ (answer ++ more)) ≡ (written ++ w) ++ (after ++ more)
-seam written pending answer more w after same =
-    ap (λ xs. written ++ xs) (sym (append_assoc pending answer more))
-    ∙ ap (λ xs. written ++ (xs ++ more)) (sym same)
-    ∙ ap (λ xs. written ++ xs) (append_assoc w after more)
-    ∙ sym (append_assoc written w (after ++ more))
-
--- a line that was answered, and whatever the rest is answered
-pub output_goes_on : (run run' : Run) (rest rest' given answer more : List ℕ) → lines_of rest ≡ given ∷ lines_of rest'
-    → Step (state_of run) given answer (state_of run') → Outputs (state_of run') (lines_of rest') more
-    → Outputs (state_of run) (lines_of rest) (answer ++ more)
-output_goes_on run run' rest rest' given answer more first step output =
-    subst (λ lines. Outputs (state_of run) lines (answer ++ more)) (sym first)
-    (answer, more, state_of run', step, output, refl)
-
--- what is written is the front of an output, with what is pending behind it
-pub front_of : (run : Run) (reader : LineReader) (left before now : Option (List ℕ)) (pending text : List ℕ)
-    → Progress run reader left before now pending text → WroteFrontBut pending text before now
-front_of run reader left before now pending text p =
-    let rest = some_output (state_of run) (lines_of p.rest) in
-    (p.written, rest.0, p.appends, p.output rest.0 rest.1)
-
--- the next line was answered, or its answer wasn't given
-pub progress-line : (ended : Turn) (run run' : Run) (reader reader' : LineReader) (left left' before now now' : Option (List ℕ))
-    (pending pending' text given : List ℕ)
-    → (p : Progress run reader left before now pending text) → Gives reader' left' p.rest given
-    → LineOf ended run given run' now now' pending pending'
-    → TurnOf ended run' reader' left' before now' pending' text
-progress-line turn.Next run run' reader reader' left left' before now now' pending pending' text given p g (inl (answer, a, (w, appends, same))) = record {
-  rest = g.rest;
-  stands = g.after;
-  written = p.written ++ w;
-  appends = Appends-trans before now now' p.written w p.appends appends;
-  output = λ more output. subst (IsOutput text) (seam p.written pending answer more w pending' same)
-      (p.output (answer ++ more) (output_goes_on run run' p.rest g.rest given answer more g.is_first a.step output));
-  bad = λ bad. elim (a.bad bad) [ inl begun ↦ p.bad begun | inr this ↦ p.back (subst AnyBad (sym g.is_first) (inl this)) ];
-  good = λ good any. elim (subst AnyBad g.is_first (p.good ((a.good good).0) any)) [ inl this ↦ absurd ((a.good good).1 this) | inr later ↦ later ];
-  back = λ any. p.back (subst AnyBad (sym g.is_first) (inr any));
-}
-progress-line (turn.Ended status.Memory) run run' reader reader' left left' before now now' pending pending' text given p g (inl (answer, a, (none, same))) =
-    let front = front_of run reader left before now pending text p in
-    subst (λ kept. WroteFrontBut kept text before now') (sym same)
-    (front.0, front.1, Appends-none before now now' front.0 front.2 none, front.3)
-progress-line (turn.Ended status.WriteFault) run run' reader reader' left left' before now now' pending pending' text given p g (inl (answer, a, (count, appends))) =
-    let rest = some_output (state_of run') (lines_of g.rest) in
-    let all = pending ++ answer in (
-      p.written ++ take count all,
-      drop count all ++ rest.0,
-      Appends-trans before now now' p.written (take count all) p.appends appends,
-      subst (IsOutput text) (seam p.written pending answer rest.0 (take count all) (drop count all) (take-append-drop count all))
-          (p.output (answer ++ rest.0) (output_goes_on run run' p.rest g.rest given answer rest.0 g.is_first a.step rest.1)),
-    )
-progress-line (turn.Ended status.Done) run run' reader reader' left left' before now now' pending pending' text given p g (inl (answer, a, none)) = absurd none
-progress-line (turn.Ended status.Usage) run run' reader reader' left left' before now now' pending pending' text given p g (inl (answer, a, none)) = absurd none
-progress-line (turn.Ended status.BadItems) run run' reader reader' left left' before now now' pending pending' text given p g (inl (answer, a, none)) = absurd none
-progress-line (turn.Ended status.ReadFault) run run' reader reader' left left' before now now' pending pending' text given p g (inl (answer, a, none)) = absurd none
-progress-line (turn.Ended status.AcceptFault) run run' reader reader' left left' before now now' pending pending' text given p g (inl (answer, a, none)) = absurd none
-progress-line (turn.Ended status.LongInput) run run' reader reader' left left' before now now' pending pending' text given p g (inl (answer, a, none)) = absurd none
-progress-line (turn.Ended status.Spent) run run' reader reader' left left' before now now' pending pending' text given p g (inl (answer, a, none)) = absurd none
-progress-line ended run run' reader reader' left left' before now now' pending pending' text given p g (inr (is_memory, none, same)) =
-    let front = front_of run reader left before now pending text p in
-    subst (λ t. TurnOf t run' reader' left' before now' pending' text) (sym is_memory)
-    (subst (λ kept. WroteFrontBut kept text before now') (sym same)
-    (front.0, front.1, Appends-none before now now' front.0 front.2 none, front.3))
-
--- the two ends of a run
-pub closing-flag : (any_bad : Bool) (before now : Option (List ℕ)) (pending text : List ℕ) → WroteBut pending text before now
-    → (any_bad ≡ true → AnyBad (lines_of text)) → (any_bad ≡ false → ¬ (AnyBad (lines_of text)))
-    → Closing (cond any_bad status.BadItems status.Done) pending text before now
-closing-flag true before now pending text wrote bad good = (wrote, bad refl)
-closing-flag false before now pending text wrote bad good = (wrote, good refl)
-
--- the input ended
-pub progress-end : (run : Run) (reader : LineReader) (left before now : Option (List ℕ)) (pending text : List ℕ)
-    → (p : Progress run reader left before now pending text) → p.rest ≡ []
-    → Closing (cond run.any_bad status.BadItems status.Done) pending text before now
-progress-end run reader left before now pending text p ended =
-    let none : Outputs (state_of run) (lines_of p.rest) [] = subst (λ rest. Outputs (state_of run) (lines_of rest) []) (sym ended) refl in
-    closing-flag run.any_bad before now pending text
-    (p.written, p.appends, subst (λ xs. IsOutput text (p.written ++ xs)) (append-nil pending) (p.output [] none))
-    p.bad
-    (λ good any. let later : AnyBad (lines_of []) = subst (λ rest. AnyBad (lines_of rest)) ended (p.good good any) in later)
-
--- all that was pending was written
-pub written_all : (pending text : List ℕ) (before now after : Option (List ℕ)) → WroteBut pending text before now → Appends now after pending
-    → WroteOutput text before after
-written_all pending text before now after wrote all =
-    (wrote.0 ++ pending, Appends-trans before now after wrote.0 pending wrote.1 all, wrote.2)
-
--- all that was pending was written, or its front
-pub written_front : (pending text : List ℕ) (before now after : Option (List ℕ)) → WroteFrontBut pending text before now
-    → (count : ℕ) → Appends now after (take count pending) → WroteFront text before after
-written_front pending text before now after wrote count part = (
-  wrote.0 ++ take count pending,
-  drop count pending ++ wrote.1,
-  Appends-trans before now after wrote.0 (take count pending) wrote.2 part,
-  subst (IsOutput text)
-      (ap (λ xs. wrote.0 ++ (xs ++ wrote.1)) (sym (take-append-drop count pending))
-      ∙ ap (λ xs. wrote.0 ++ xs) (append_assoc (take count pending) (drop count pending) wrote.1)
-      ∙ sym (append_assoc wrote.0 (take count pending) (drop count pending ++ wrote.1)))
-      wrote.3,
-)
-
--- all that was pending was written, where the front of an output was
-pub front-written : (pending text : List ℕ) (before now after : Option (List ℕ)) → WroteFrontBut pending text before now
-    → Appends now after pending → WroteFront text before after
-front-written pending text before now after wrote all = (
-  wrote.0 ++ pending,
-  wrote.1,
-  Appends-trans before now after wrote.0 pending wrote.2 all,
-  subst (IsOutput text) (sym (append_assoc wrote.0 pending wrote.1)) wrote.3,
-)
-
--- a whole output is a front of one
-pub but_front : (pending text : List ℕ) (before now : Option (List ℕ)) → WroteBut pending text before now → WroteFrontBut pending text before now
-but_front pending text before now wrote =
-    (wrote.0, [], wrote.1, subst (λ xs. IsOutput text (wrote.0 ++ xs)) (sym (append-nil pending)) wrote.2)
-
--- the end of a run that wrote the rest
-pub ended-written : (ended : Status) (pending text : List ℕ) (before now after : Option (List ℕ)) → ¬ (ended ≡ status.WriteFault)
-    → Closing ended pending text before now → Appends now after pending → Ended ended text before after
-ended-written status.Done pending text before now after other closing all = (written_all pending text before now after closing.0 all, closing.1)
-ended-written status.BadItems pending text before now after other closing all = (written_all pending text before now after closing.0 all, closing.1)
-ended-written status.ReadFault pending text before now after other closing all = front-written pending text before now after closing all
-ended-written status.WriteFault pending text before now after other closing all = absurd (other refl)
-ended-written status.Memory pending text before now after other closing all = front-written pending text before now after closing all
-ended-written status.LongInput pending text before now after other closing all = front-written pending text before now after closing all
-ended-written status.Usage pending text before now after other closing all = absurd closing
-ended-written status.AcceptFault pending text before now after other closing all = absurd closing
-ended-written status.Spent pending text before now after other closing all = absurd closing
-
--- the end of a run that could not write the rest
-pub ended-cut : (ended : Status) (pending text : List ℕ) (before now after : Option (List ℕ)) → ¬ (ended ≡ status.WriteFault)
-    → Closing ended pending text before now → (count : ℕ) → Appends now after (take count pending) → Ended (after_write_fault ended) text before after
-ended-cut status.Done pending text before now after other closing count part = written_front pending text before now after (but_front pending text before now closing.0) count part
-ended-cut status.BadItems pending text before now after other closing count part = written_front pending text before now after (but_front pending text before now closing.0) count part
-ended-cut status.ReadFault pending text before now after other closing count part = written_front pending text before now after closing count part
-ended-cut status.WriteFault pending text before now after other closing count part = absurd (other refl)
-ended-cut status.Memory pending text before now after other closing count part = written_front pending text before now after closing count part
-ended-cut status.LongInput pending text before now after other closing count part = written_front pending text before now after closing count part
-ended-cut status.Usage pending text before now after other closing count part = absurd closing
-ended-cut status.AcceptFault pending text before now after other closing count part = absurd closing
-ended-cut status.Spent pending text before now after other closing count part = absurd closing
-
--- where a run begins, nothing is written, and the whole text is left
-pub progress-opening : (replay : Replay) (left got : Option (List ℕ)) (text : List ℕ) → IsOpening replay → left ≡ Some text
-    → Progress replay.run replay.reader left got got replay.pending text
-progress-opening replay left got text opens told = record {
-  rest = text;
-  stands = subst (λ o. Stands replay.reader o text) (sym told) (opens.stands text);
+-- nothing was answered yet
+pub reached-opening : (got : Option (List ℕ)) (text : List ℕ) → Reached opening got got [] text text
+reached-opening got text = record {
+  front = [];
+  is_front = refl;
+  run = [];
+  is_run = refl;
   written = [];
   appends = Appends-nil got;
-  output = λ more output.
-      subst (λ pending. IsOutput text ([] ++ (pending ++ more))) (sym opens.pending)
-      (subst (λ s. Outputs s (lines_of text) more) opens.state output);
-  bad = λ bad. let never : true ≡ false = sym bad ∙ opens.good in cc;
-  good = λ _ any. any;
-  back = λ any. any;
+  is_pending = refl;
 }
 
-pub ended-same : (a b : Status) → turn.Ended a ≡ turn.Ended b → a ≡ b
-ended-same a b same = cc
+-- the next line was answered
+pub reached-line : (to to' : RunState) (before now : Option (List ℕ)) (pending pending' text rest rest' given : List ℕ)
+    → Reached to before now pending text rest → lines_of rest ≡ given ∷ lines_of rest' → TookLine to given pending to' pending'
+    → Reached to' before now pending' text rest'
+reached-line to to' before now pending pending' text rest rest' given r first (this, answered, after, same) = record {
+  front = r.front ++ given ∷ [];
+  is_front = r.is_front ∙ ap (λ xs. r.front ++ xs) first ∙ sym (append_assoc r.front (given ∷ []) (lines_of rest'));
+  run = r.run ++ this ∷ [];
+  is_run = run-append opening to to' r.front (given ∷ []) r.run (this ∷ []) r.is_run (answered, sym after);
+  written = r.written;
+  appends = r.appends;
+  is_pending =
+      ap (λ xs. r.written ++ xs) same ∙ sym (append_assoc r.written pending this.text) ∙ ap (λ xs. xs ++ this.text) r.is_pending
+      ∙ ap (λ xs. texts_of r.run ++ xs) (sym (append-nil this.text)) ∙ sym (texts-append r.run (this ∷ []));
+}
+
+-- some of what was pending was written
+pub reached-written : (to : RunState) (before now now' : Option (List ℕ)) (pending pending' written text rest : List ℕ)
+    → Reached to before now pending text rest → Appends now now' written → written ++ pending' ≡ pending
+    → Reached to before now' pending' text rest
+reached-written to before now now' pending pending' written text rest r more same = record {
+  front = r.front;
+  is_front = r.is_front;
+  run = r.run;
+  is_run = r.is_run;
+  written = r.written ++ written;
+  appends = Appends-trans before now now' r.written written r.appends more;
+  is_pending = append_assoc r.written written pending' ∙ ap (λ xs. r.written ++ xs) same ∙ r.is_pending;
+}
+
+-- a front of what was pending was written
+pub front-written : (to : RunState) (before now after : Option (List ℕ)) (pending written left text rest : List ℕ)
+    → Reached to before now pending text rest → Appends now after written → pending ≡ written ++ left → WroteFront text before after
+front-written to before now after pending written left text rest r more same =
+    let others = some_run to (lines_of rest) in
+    let behind = texts_of others.0 in
+    let run = r.run ++ others.0 in
+    let is_run : IsRun opening (lines_of text) run others.1 =
+    subst (λ lines. IsRun opening lines run others.1) (sym r.is_front)
+    (run-append opening to others.1 r.front (lines_of rest) r.run others.0 r.is_run others.2) in
+    let joined : (r.written ++ written) ++ (left ++ behind) ≡ texts_of run =
+    append_assoc r.written written (left ++ behind)
+    ∙ ap (λ xs. r.written ++ xs) (sym (append_assoc written left behind))
+    ∙ ap (λ xs. r.written ++ (xs ++ behind)) (sym same)
+    ∙ sym (append_assoc r.written pending behind)
+    ∙ ap (λ xs. xs ++ behind) r.is_pending
+    ∙ sym (texts-append r.run others.0) in
+    (r.written ++ written, left ++ behind, Appends-trans before now after r.written written r.appends more, (run, others.1, is_run, joined))
+
+-- the same, where the front is told by its length
+pub front-cut : (to : RunState) (before now after : Option (List ℕ)) (pending text rest : List ℕ) → Reached to before now pending text rest
+    → (count : ℕ) → Appends now after (take count pending) → WroteFront text before after
+front-cut to before now after pending text rest r count part =
+    front-written to before now after pending (take count pending) (drop count pending) text rest r part (sym (take-append-drop count pending))
+
+-- all that was pending was written
+pub answers-written : (to : RunState) (before now after : Option (List ℕ)) (pending text rest : List ℕ) → Reached to before now pending text rest
+    → Appends now after pending → WroteAnswers text rest before after
+answers-written to before now after pending text rest r all = record {
+  front = r.front;
+  is_front = r.is_front;
+  run = r.run;
+  to = to;
+  is_run = r.is_run;
+  appends = subst (Appends before after) r.is_pending (Appends-trans before now after r.written pending r.appends all);
+}
+
+output-written : (to : RunState) (before now after : Option (List ℕ)) (pending text : List ℕ) → Reached to before now pending text []
+    → Appends now after pending → WroteOutput to.any_bad text before after
+output-written to before now after pending text r all = record {
+  run = r.run;
+  to = to;
+  is_run = subst (λ lines. IsRun opening lines r.run to) (sym (r.is_front ∙ append-nil r.front)) r.is_run;
+  appends = subst (Appends before after) r.is_pending (Appends-trans before now after r.written pending r.appends all);
+  is_bad = refl;
+}
+
+ended-whole : (any_bad : Bool) (text : List ℕ) (before after : Option (List ℕ)) → WroteOutput any_bad text before after
+    → Ended (cond any_bad status.BadItems status.Done) text before after
+ended-whole true text before after wrote = wrote
+ended-whole false text before after wrote = wrote
+
+-- the input ended, and all was written
+pub closed : (ended : Status) (to : RunState) (before now after : Option (List ℕ)) (pending text : List ℕ) → ended ≡ cond to.any_bad status.BadItems status.Done
+    → Reached to before now pending text [] → Appends now after pending → Ended ended text before after
+closed ended to before now after pending text is r all =
+    subst (λ s. Ended s text before after) (sym is) (ended-whole to.any_bad text before after (output-written to before now after pending text r all))
+
+-- the run was cut off, and of what was pending this was written
+pub stopped : (by : RunFault) (left before now after : Option (List ℕ)) (pending written more text : List ℕ) → ¬ (by ≡ fault.Write)
+    → StoppedBy by left before now pending text → Appends now after written → pending ≡ written ++ more → Ended (status_of by) text before after
+stopped fault.Read left before now after pending written more text other (rest, to, r, begun) part same = front-written to before now after pending written more text rest r part same
+stopped fault.Write left before now after pending written more text other wrote part same = absurd (other refl)
+stopped fault.Memory left before now after pending written more text other (rest, to, r) part same = front-written to before now after pending written more text rest r part same
+stopped fault.LongInput left before now after pending written more text other (rest, to, r) part same = front-written to before now after pending written more text rest r part same
+
+-- the run was cut off, and all that was pending was written
+pub stopped-whole : (by : RunFault) (left before now after : Option (List ℕ)) (pending text : List ℕ) → ¬ (by ≡ fault.Write)
+    → StoppedBy by left before now pending text → Appends now after pending → WroteWhole (status_of by) text left before after
+stopped-whole fault.Read left before now after pending text other (rest, to, r, begun) all = (rest, answers-written to before now after pending text rest r all, λ _. begun)
+stopped-whole fault.Write left before now after pending text other wrote all = absurd (other refl)
+stopped-whole fault.Memory left before now after pending text other (rest, to, r) all =
+    (rest, answers-written to before now after pending text rest r all, λ e. let never : status.Memory ≡ status.ReadFault = e in cc)
+stopped-whole fault.LongInput left before now after pending text other (rest, to, r) all =
+    (rest, answers-written to before now after pending text rest r all, λ e. let never : status.LongInput ≡ status.ReadFault = e in cc)
+
+-- the run was cut off, and what was pending was written, or a front of it
+pub stopped-cut : {A E : Type 0} (r : Result A E) (by : RunFault) (left before now after : Option (List ℕ)) (pending text : List ℕ)
+    → ¬ (by ≡ fault.Write) → StoppedBy by left before now pending text → OnOk r (Appends now after pending)
+    → OnErr r ((count : ℕ) × (count < length pending) × Appends now after (take count pending))
+    → Ended (status_of by) text before after
+stopped-cut (Ok x) by left before now after pending text other stop all cut =
+    stopped by left before now after pending pending [] text other stop all (sym (append-nil pending))
+stopped-cut (Err e) by left before now after pending text other stop all cut =
+    stopped by left before now after pending (take cut.0 pending) (drop cut.0 pending) text other stop cut.2
+    (sym (take-append-drop cut.0 pending))
+
+-- a turn whose piece was written
+pub turn-written : (t : Turn) (to : RunState) (reader : LineReader) (left before now after : Option (List ℕ)) (pending pending' written text : List ℕ)
+    → TurnOf (Ok t) to reader left before now pending text → Appends now after written → written ++ pending' ≡ pending
+    → TurnOf (Ok t) to reader left before after pending' text
+turn-written turn.Next to reader left before now after pending pending' written text (rest, stands, r) part same =
+    (rest, stands, reached-written to before now after pending pending' written text rest r part same)
+turn-written turn.End to reader left before now after pending pending' written text r part same =
+    reached-written to before now after pending pending' written text [] r part same
+
+-- a turn whose piece was cut off
+pub turn-cut : (t : Turn) (to : RunState) (reader : LineReader) (left before now after : Option (List ℕ)) (pending text : List ℕ)
+    → TurnOf (Ok t) to reader left before now pending text → (count : ℕ) → Appends now after (take count pending) → WroteFront text before after
+turn-cut turn.Next to reader left before now after pending text (rest, stands, r) count part = front-cut to before now after pending text rest r count part
+turn-cut turn.End to reader left before now after pending text r count part = front-cut to before now after pending text [] r count part
+
+-- where a run begins, the whole text is left
+pub progress-opening : (replay : Replay) (left got : Option (List ℕ)) (text : List ℕ) → IsOpening replay → left ≡ Some text
+    → Progress replay.run replay.reader left got got replay.pending text
+progress-opening replay left got text opens told = (
+  text,
+  subst (λ o. Stands replay.reader o text) (sym told) (opens.stands text),
+  subst (λ s. Reached s got got replay.pending text text) (sym opens.run)
+      (subst (λ pending. Reached opening got got pending text text) (sym opens.pending) (reached-opening got text)),
+)
+
+-- nothing was read
+pub answers-none : (ended : Status) (got left : Option (List ℕ)) (text : List ℕ) → ¬ (ended ≡ status.ReadFault)
+    → WroteWhole ended text left got got
+answers-none ended got left text other =
+    (text, answers-written opening got got got [] text text (reached-opening got text) (Appends-nil got), λ e. absurd (other e))
+
+-- the reader stands in a line
+pub begun-stands : (reader : LineReader) (left : Option (List ℕ)) (rest : List ℕ) → Stands reader left rest → NoNewline (ahead_of reader)
+    → IsBegun rest left
+begun-stands reader left rest s none = (
+  s.past ++ ahead_of reader,
+  s.source,
+  NoNewline-append s.past (ahead_of reader) (NoNewline-past reader.long s.past s.is_past) none,
+  s.is_left,
+  s.is_text ∙ sym (append_assoc s.past (ahead_of reader) s.source),
+)
+
+-- bytes were taken before, and in the last turn
+pub took-input : (reader reader' : LineReader) (left left' left'' taken taken' taken'' : Option (List ℕ)) (ended : Status) (bytes : List ℕ)
+    → Consumes left left' bytes → Appends taken taken' bytes → reader.taken ≡ length bytes
+    → TookMore left' left'' taken' taken'' reader reader' → ((ended ≡ status.LongInput) ↔ (reader'.taken ≡ 2 ^ 40))
+    → TookInput left left'' taken taken'' ended
+took-input reader reader' left left' left'' taken taken' taken'' ended bytes consumed appended counted more limit =
+    let size : reader'.taken ≡ length (bytes ++ more.bytes) =
+    more.counted ∙ ap (λ n. n + length more.bytes) counted ∙ sym (length-append bytes more.bytes) in
+    record {
+      bytes = bytes ++ more.bytes;
+      left = Consumes-trans left left' left'' bytes more.bytes consumed more.left;
+      taken = Appends-trans taken taken' taken'' bytes more.bytes appended more.taken;
+      limit = (λ long. sym size ∙ limit.0 long, λ full. limit.1 (size ∙ full));
+    }
+
+-- the input was read to its end
+pub judged-or-cut : (s : Status) → IsJudged s ⊎ (s ≡ status.WriteFault) → (s ≢ status.LongInput) × (s ≢ status.ReadFault)
+judged-or-cut s (inl (inl is)) =
+    (λ e. let never : status.Done ≡ status.LongInput = sym is ∙ e in cc, λ e. let never : status.Done ≡ status.ReadFault = sym is ∙ e in cc)
+judged-or-cut s (inl (inr is)) =
+    (λ e. let never : status.BadItems ≡ status.LongInput = sym is ∙ e in cc, λ e. let never : status.BadItems ≡ status.ReadFault = sym is ∙ e in cc)
+judged-or-cut s (inr is) =
+    (λ e. let never : status.WriteFault ≡ status.LongInput = sym is ∙ e in cc, λ e. let never : status.WriteFault ≡ status.ReadFault = sym is ∙ e in cc)
+
+-- a run is cut off for the length of its input by that alone
+pub long-status : (by : RunFault) → status_of by ≡ status.LongInput → by ≡ fault.LongInput
+long-status fault.Read is = let never : status.ReadFault ≡ status.LongInput = is in cc
+long-status fault.Write is = let never : status.WriteFault ≡ status.LongInput = is in cc
+long-status fault.Memory is = let never : status.Memory ≡ status.LongInput = is in cc
+long-status fault.LongInput is = refl
+
+pub same-fault : {A : Type 0} (r : Result A RunFault) (a b : RunFault) → r ≡ Err a → r ≡ Err b → a ≡ b
+same-fault r a b p q = cc

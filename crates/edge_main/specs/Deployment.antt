@@ -78,5 +78,5 @@ sets_of None = Some (record { rule = None })
 sets_of (Some value) = set_of value
 
 -- a deployment: the one member `rulesets`, an array of at most one ruleset
-abbrev pub deployed_of : Data → Option Deployed
-deployed_of value = tested (has_members 1 value) (option_and_then sets_of (only_of (codes "rulesets") value))
+abbrev pub deployment_of : Data → Option Deployed
+deployment_of value = tested (has_members 1 value) (option_and_then sets_of (only_of (codes "rulesets") value))

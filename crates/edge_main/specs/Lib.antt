@@ -1,4 +1,6 @@
+pub mod Answered
 pub mod Deployment
+pub mod Ended
 pub mod Form
 pub mod FormTree
 pub mod Judging

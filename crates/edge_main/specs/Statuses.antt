@@ -28,15 +28,3 @@ said_of status.Memory = told (codes "edge: no memory")
 said_of status.AcceptFault = told (codes "edge: accept fault")
 said_of status.LongInput = told (codes "edge: input too long")
 said_of status.Spent = told (codes "edge: steps spent")
-
--- a run whose last answers could not be written: the first fault is the one that is told
-abbrev pub after_write_fault : Status → Status
-after_write_fault status.Done = status.WriteFault
-after_write_fault status.Usage = status.Usage
-after_write_fault status.BadItems = status.WriteFault
-after_write_fault status.ReadFault = status.ReadFault
-after_write_fault status.WriteFault = status.WriteFault
-after_write_fault status.Memory = status.Memory
-after_write_fault status.AcceptFault = status.AcceptFault
-after_write_fault status.LongInput = status.LongInput
-after_write_fault status.Spent = status.Spent

@@ -2,7 +2,7 @@ ghost use Rattle.std.specs.Prelude.{◌≡◌, ℕ, List, IfOk, Some, option_map
 ghost use Rattle.std.specs.List.{list_all};
 ghost use Rattle.serde_json.specs.View.{view, items_view};
 ghost use Rattle.trace_form.specs.Members.{has_members};
-ghost use Rattle.edge_main.specs.Deployment.{is_id_byte, is_id, is_text, id_of, at_most_one, only_of, rule_of, rules_of, is_taken_set, set_of, sets_of, deployed_of};
+ghost use Rattle.edge_main.specs.Deployment.{is_id_byte, is_id, is_text, id_of, at_most_one, only_of, rule_of, rules_of, is_taken_set, set_of, sets_of, deployment_of};
 
 use crate::form::compared_path;
 use edge_base::{Memory, RuleName, Text};
@@ -152,8 +152,8 @@ fn sets_of(alloc: Global, value: Option<&Value>) -> Result<Option<Deployed>, Mem
 }
 
 /// What a deployment puts in force, where it is one that is taken.
-pub fn deployed_of(alloc: Global, value: &Value) -> Result<Option<Deployed>, Memory>
-    ensures { IfOk result (λ deployed. deployed ≡ deployed_of (view value.now)) }
+pub fn deployment_of(alloc: Global, value: &Value) -> Result<Option<Deployed>, Memory>
+    ensures { IfOk result (λ deployed. deployed ≡ deployment_of (view value.now)) }
 {
     if !has_members(value, 1) {
         return Ok(None);

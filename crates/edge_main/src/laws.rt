@@ -1,5 +1,10 @@
-ghost use Rattle.edge_main.specs.Output.{OutputsAreUnique, EveryInputHasAnOutput};
+ghost use Rattle.edge_main.specs.Output.{RunsAreUnique, OutputsAreUnique, EveryInputHasAnOutput};
 ghost use Rattle.edge_main.specs.FormTree.{FormsAreRead};
+
+/// An input has at most one run.
+pub fn runs_are_unique()
+    ensures { RunsAreUnique }
+{}
 
 /// An input has at most one output.
 pub fn outputs_are_unique()

@@ -15,6 +15,6 @@ mod tests;
 mod words;
 
 pub use hashers::lane_hashers;
-pub use laws::{every_input_has_an_output, forms_are_read, outputs_are_unique};
+pub use laws::{every_input_has_an_output, forms_are_read, outputs_are_unique, runs_are_unique};
 pub use quiet::edge_quiet;
 pub use statuses::Status;

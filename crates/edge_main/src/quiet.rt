@@ -1,9 +1,9 @@
-ghost use Rattle.std.specs.Prelude.{◌≡◌, ◌<◌, ◌^◌, ◌↔◌, ℕ, List, Option, Some, true, false, length, map, vec_len};
+ghost use Rattle.std.specs.Prelude.{◌≡◌, ◌≢◌, ◌<◌, ◌^◌, ◌⊎◌, ◌↔◌, ℕ, List, Option, Some, true, false, length, map, vec_len};
 ghost use Rattle.std.specs.Io.KnownBytes.{Appends};
 ghost use Rattle.edge_outside.specs.Faults.{Rose};
 ghost use Rattle.edge_main.specs.Statuses.{said_of};
 ghost use Rattle.edge_main.specs.Words.{is_replay};
-ghost use Rattle.edge_main.specs.Running.{Ended, Took, IsComplete};
+ghost use Rattle.edge_main.specs.Ended.{IsJudged, Ended, WroteWhole, TookInput};
 
 use crate::replay::replay_input;
 use crate::statuses::Status;
@@ -30,22 +30,27 @@ pub fn edge_quiet<S: Source, K: Sink, E: Sink>(
 ) -> Status
     requires { vec_len hashers ≡ 64 }
     ensures usage { (result ≡ Status.Usage) ↔ (is_replay (map (λ word. word.now) words.now) ≡ false) }
+    ensures usage_kept { result ≡ Status.Usage → (input.new ≡ input.old) × (out.new ≡ out.old) }
     ensures ended { (text : List ℕ) → S.left input.old ≡ Some text → Ended result text (K.got out.old) (K.got out.new) }
+    ensures answered { ¬ (Rose (K.faults out.old) (K.faults out.new)) → (text : List ℕ) → S.left input.old ≡ Some text
+        → WroteWhole result text (S.left input.new) (K.got out.old) (K.got out.new) }
     ensures read { result ≡ Status.ReadFault → Rose (S.faults input.old) (S.faults input.new) }
+    ensures input_kept { result ≢ Status.ReadFault → S.faults input.new ≡ S.faults input.old }
     ensures write { result ≡ Status.WriteFault → Rose (K.faults out.old) (K.faults out.new) }
-    ensures never { ¬ (result ≡ Status.AcceptFault) × ¬ (result ≡ Status.Spent) }
-    ensures took { Took (S.left input.old) (S.left input.new) (S.taken input.old) (S.taken input.new) result }
+    ensures out_kept { IsJudged result → K.faults out.new ≡ K.faults out.old }
+    ensures never { (result ≢ Status.AcceptFault) × (result ≢ Status.Spent) }
+    ensures took { TookInput (S.left input.old) (S.left input.new) (S.taken input.old) (S.taken input.new) result }
     ensures said { ¬ (Rose (E.faults said.old) (E.faults said.new)) → Appends (E.got said.old) (E.got said.new) (said_of result) }
     ensures complete { ¬ (Rose (S.faults input.old) (S.faults input.new)) → ¬ (Rose (K.faults out.old) (K.faults out.new))
         → is_replay (map (λ word. word.now) words.now) ≡ true
         → (text rest : List ℕ) → S.left input.old ≡ Some text → S.left input.new ≡ Some rest → length text < 2 ^ 40
-        → IsComplete result text (K.got out.old) (K.got out.new) }
+        → IsJudged result ⊎ (result ≡ Status.Memory) }
 {
-    let status = if is_replay(words) {
-        replay_input(alloc, input, out)
-    } else {
-        Status::Usage
-    };
+    if !is_replay(words) {
+        tell(Status::Usage, said);
+        return Status::Usage;
+    }
+    let status = replay_input(alloc, input, out);
     tell(status, said);
     status
 }

@@ -1,13 +1,14 @@
-ghost use Rattle.std.specs.Prelude.{◌≡◌, ◌+◌, ◌≤◌, ◌<◌, ◌^◌, ◌⊎◌, ◌↔◌, ℕ, List, [], ◌++◌, length, take, Option, IfOk};
-ghost use Rattle.std.specs.Io.KnownBytes.{Appends, Consumes};
+ghost use Rattle.std.specs.Prelude.{◌≡◌, ◌≢◌, ◌+◌, ◌≤◌, ◌<◌, ◌^◌, ◌⊎◌, ◌↔◌, ℕ, List, [], ◌++◌, length, take, Option, Some, Result, Ok, Err, IfOk, OnOk, OnErr};
+ghost use Rattle.std.specs.Io.KnownBytes.{Appends};
 ghost use Rattle.edge_outside.specs.Faults.{Rose};
-ghost use Rattle.edge_outside.specs.Reading.{Stands, line_of, weight};
-ghost use Rattle.edge_main.specs.Running.{LineOf, GaveOf, IsAnswering, IsPlainTurn, IsPlain, Progress, TurnOf, Closing, Ended, Took, TookMore, IsOpening};
+ghost use Rattle.edge_outside.specs.Reading.{line_of, weight};
+ghost use Rattle.edge_main.specs.Ended.{IsJudged, Ended, TookInput, WroteAnswers, WroteWhole};
+ghost use Rattle.edge_main.specs.Running.{TookLine, Reached, Progress, StoppedBy, TurnOf, TookMore, IsOpening, status_of};
 
 use crate::run::Run;
 use crate::statuses::Status;
 use edge_base::{Memory, TextBuilder};
-use edge_outside::{LineReader, LineStep, Sink, Source, write_all};
+use edge_outside::{Failed, LineReader, LineStep, Sink, Source, write_all};
 use std::alloc::Global;
 
 /// How many answered bytes are gathered before they are written.
@@ -16,28 +17,58 @@ const PIECE: usize = 1 << 16;
 /// What one turn of the run came to.
 #[derive(Clone, Copy, Debug, PartialEq, Eq)]
 pub enum Turn {
+    /// A line was answered.
     Next,
-    Ended(Status),
+    /// The input is at its end.
+    End,
 }
 
-/// Adds the next answer to what is pending, and writes that where it is enough for a piece.
-fn give<K: Sink>(answer: &[u8], pending: &mut TextBuilder, out: &mut K) -> Turn
-    ensures gave { GaveOf result answer.now (K.got out.old) (K.got out.new) pending.old pending.new }
-    ensures answering { IsAnswering result }
-    ensures write { result ≡ Turn.Ended Status.WriteFault → Rose (K.faults out.old) (K.faults out.new) }
-    ensures later { K.faults out.old ≤ K.faults out.new }
+/// What ends a run before its input ends.
+#[derive(Clone, Copy, Debug, PartialEq, Eq)]
+pub enum RunFault {
+    Read,
+    Write,
+    Memory,
+    /// 2^40 bytes were taken.
+    LongInput,
+}
+
+impl RunFault {
+    /// How a run ends that this has ended.
+    fn status(self) -> Status
+        ensures { result ≡ status_of self }
+    {
+        match self {
+            RunFault::Read => Status::ReadFault,
+            RunFault::Write => Status::WriteFault,
+            RunFault::Memory => Status::Memory,
+            RunFault::LongInput => Status::LongInput,
+        }
+    }
+}
+
+impl From<Memory> for RunFault {
+    ghost use Rattle.edge_main.specs.declared.replay.RunFault.TheVariants as fault;
+
+    ghost from_gives = { λ _ given. given ≡ fault.Memory };
+
+    fn from(_refused: Memory) -> RunFault {
+        RunFault::Memory
+    }
+}
+
+/// Writes what is pending, where it is enough for a piece.
+fn write_piece<K: Sink>(pending: &mut TextBuilder, out: &mut K) -> Result<(), Failed>
+    ensures ok { OnOk result ((written : List ℕ) × Appends (K.got out.old) (K.got out.new) written × (written ++ pending.new ≡ pending.old)) }
+    ensures err { OnErr result ((count : ℕ) × Appends (K.got out.old) (K.got out.new) (take count pending.old)) }
+    ensures kept { OnOk result (K.faults out.new ≡ K.faults out.old) }
+    ensures failed { OnErr result (Rose (K.faults out.old) (K.faults out.new)) }
 {
-    if pending.push(answer).is_err() {
-        return Turn::Ended(Status::Memory);
+    if PIECE <= pending.len() {
+        write_all(out, pending.bytes())?;
+        pending.clear();
     }
-    if pending.len() < PIECE {
-        return Turn::Next;
-    }
-    if write_all(out, pending.bytes()).is_err() {
-        return Turn::Ended(Status::WriteFault);
-    }
-    pending.clear();
-    Turn::Next
+    Ok(())
 }
 
 /// A run under way: what it has read and judged, and the answers that were not written yet.
@@ -62,103 +93,138 @@ impl Replay {
         })
     }
 
-    /// Answers the line that was read.
-    fn take_line<K: Sink>(&mut self, alloc: Global, out: &mut K) -> Turn
+    /// Answers the line that was read, and adds the answer to what is pending: whole, or not at all.
+    fn take_line(&mut self, alloc: Global) -> Result<(), Memory>
         requires { self.old.run.lines < 2 ^ 40 }
-        ensures line { LineOf result self.old.run (line_of self.old.reader) self.new.run (K.got out.old) (K.got out.new) self.old.pending self.new.pending }
-        ensures lines { result ≡ Turn.Next → self.new.run.lines ≡ self.old.run.lines + 1 }
-        ensures answering { IsAnswering result }
+        ensures ok { OnOk result (TookLine self.old.run (line_of self.old.reader) self.old.pending self.new.run self.new.pending) }
+        ensures err { OnErr result (self.new.pending ≡ self.old.pending) }
+        ensures lines { OnOk result (self.new.run.lines ≡ self.old.run.lines + 1) }
         ensures reader { self.new.reader ≡ self.old.reader }
-        ensures write { result ≡ Turn.Ended Status.WriteFault → Rose (K.faults out.old) (K.faults out.new) }
-        ensures later { K.faults out.old ≤ K.faults out.new }
     {
-        if self
-            .run
-            .answer(alloc, self.reader.line(), &mut self.answer)
-            .is_err()
-        {
-            return Turn::Ended(Status::Memory);
-        }
-        give(self.answer.bytes(), &mut self.pending, out)
+        self.run
+            .answer(alloc, self.reader.line(), &mut self.answer)?;
+        self.pending.push(self.answer.bytes())
     }
 
-    /// Answers a line that is too long to be an item.
-    fn take_long<K: Sink>(&mut self, out: &mut K) -> Turn
+    /// The same for a line that is too long to be an item.
+    fn take_long(&mut self) -> Result<(), Memory>
         requires { self.old.run.lines < 2 ^ 40 }
-        ensures line { (given : List ℕ) → 2 ^ 20 < length given → LineOf result self.old.run given self.new.run (K.got out.old) (K.got out.new) self.old.pending self.new.pending }
-        ensures lines { result ≡ Turn.Next → self.new.run.lines ≡ self.old.run.lines + 1 }
-        ensures answering { IsAnswering result }
+        ensures ok { OnOk result ((given : List ℕ) → 2 ^ 20 < length given → TookLine self.old.run given self.old.pending self.new.run self.new.pending) }
+        ensures err { OnErr result (self.new.pending ≡ self.old.pending) }
+        ensures lines { OnOk result (self.new.run.lines ≡ self.old.run.lines + 1) }
         ensures reader { self.new.reader ≡ self.old.reader }
-        ensures write { result ≡ Turn.Ended Status.WriteFault → Rose (K.faults out.old) (K.faults out.new) }
-        ensures later { K.faults out.old ≤ K.faults out.new }
     {
-        if self.run.refuse(&mut self.answer).is_err() {
-            return Turn::Ended(Status::Memory);
-        }
-        give(self.answer.bytes(), &mut self.pending, out)
+        self.run.refuse(&mut self.answer)?;
+        self.pending.push(self.answer.bytes())
     }
 
-    /// Reads one line and answers it, or ends.
-    fn turn<S: Source, K: Sink>(&mut self, alloc: Global, input: &mut S, out: &mut K) -> Turn
+    /// Reads the next line and answers it, or ends. The answer is then pending.
+    fn take_next<S: Source>(&mut self, alloc: Global, input: &mut S) -> Result<Turn, RunFault>
+        requires { self.old.run.lines + weight self.old.reader ≤ 2 ^ 40 }
+        ensures turn { (before now : Option (List ℕ)) (text : List ℕ)
+            → Progress self.old.run self.old.reader (S.left input.old) before now self.old.pending text
+            → TurnOf result self.new.run self.new.reader (S.left input.new) before now self.new.pending text }
+        ensures falls { result ≡ Ok Turn.Next → weight self.new.reader < weight self.old.reader }
+        ensures room { result ≡ Ok Turn.Next → self.new.run.lines + weight self.new.reader ≤ 2 ^ 40 }
+        ensures read { result ≡ Err RunFault.Read → Rose (S.faults input.old) (S.faults input.new) }
+        ensures input_kept { result ≢ Err RunFault.Read → S.faults input.new ≡ S.faults input.old }
+        ensures write { result ≢ Err RunFault.Write }
+        ensures limit { (result ≡ Err RunFault.LongInput) ↔ (self.new.reader.taken ≡ 2 ^ 40) }
+        ensures took { TookMore (S.left input.old) (S.left input.new) (S.taken input.old) (S.taken input.new) self.old.reader self.new.reader }
+    {
+        match self.reader.next(input) {
+            LineStep::Line => self.take_line(alloc)?,
+            LineStep::Long => self.take_long()?,
+            LineStep::End => return Ok(Turn::End),
+            LineStep::Fault => return Err(RunFault::Read),
+            LineStep::LongInput => return Err(RunFault::LongInput),
+        }
+        Ok(Turn::Next)
+    }
+
+    /// One turn of the run: reads and answers a line, and writes what is pending where it is enough for a piece.
+    fn turn<S: Source, K: Sink>(
+        &mut self,
+        alloc: Global,
+        input: &mut S,
+        out: &mut K,
+    ) -> Result<Turn, RunFault>
         requires { self.old.run.lines + weight self.old.reader ≤ 2 ^ 40 }
         ensures turn { (before : Option (List ℕ)) (text : List ℕ)
             → Progress self.old.run self.old.reader (S.left input.old) before (K.got out.old) self.old.pending text
             → TurnOf result self.new.run self.new.reader (S.left input.new) before (K.got out.new) self.new.pending text }
-        ensures falls { result ≡ Turn.Next → weight self.new.reader < weight self.old.reader }
-        ensures room { result ≡ Turn.Next → self.new.run.lines + weight self.new.reader ≤ 2 ^ 40 }
-        ensures read { result ≡ Turn.Ended Status.ReadFault → Rose (S.faults input.old) (S.faults input.new) }
-        ensures write { result ≡ Turn.Ended Status.WriteFault → Rose (K.faults out.old) (K.faults out.new) }
-        ensures limit { (result ≡ Turn.Ended Status.LongInput) ↔ (self.new.reader.taken ≡ 2 ^ 40) }
-        ensures plain { IsPlainTurn result }
+        ensures falls { result ≡ Ok Turn.Next → weight self.new.reader < weight self.old.reader }
+        ensures room { result ≡ Ok Turn.Next → self.new.run.lines + weight self.new.reader ≤ 2 ^ 40 }
+        ensures read { result ≡ Err RunFault.Read → Rose (S.faults input.old) (S.faults input.new) }
+        ensures input_kept { result ≢ Err RunFault.Read → S.faults input.new ≡ S.faults input.old }
+        ensures write { result ≡ Err RunFault.Write → Rose (K.faults out.old) (K.faults out.new) }
+        ensures out_kept { result ≢ Err RunFault.Write → K.faults out.new ≡ K.faults out.old }
+        ensures limit { (result ≡ Err RunFault.LongInput) ↔ (self.new.reader.taken ≡ 2 ^ 40) }
         ensures took { TookMore (S.left input.old) (S.left input.new) (S.taken input.old) (S.taken input.new) self.old.reader self.new.reader }
-        ensures input_later { S.faults input.old ≤ S.faults input.new }
-        ensures out_later { K.faults out.old ≤ K.faults out.new }
     {
-        match self.reader.next(input) {
-            LineStep::Line => self.take_line(alloc, out),
-            LineStep::Long => self.take_long(out),
-            LineStep::End => Turn::Ended(self.run.ending()),
-            LineStep::Fault => Turn::Ended(Status::ReadFault),
-            LineStep::LongInput => Turn::Ended(Status::LongInput),
+        let turn = self.take_next(alloc, input)?;
+        match write_piece(&mut self.pending, out) {
+            Ok(()) => Ok(turn),
+            Err(Failed) => Err(RunFault::Write),
         }
     }
-}
 
-/// Writes what is pending, and answers how the run ended.
-fn finish<K: Sink>(status: Status, pending: &[u8], out: &mut K) -> Status
-    ensures ended { (before : Option (List ℕ)) (text : List ℕ)
-        → Closing status pending.now text before (K.got out.old) → Ended result text before (K.got out.new) }
-    ensures read { result ≡ Status.ReadFault → status ≡ Status.ReadFault }
-    ensures write { result ≡ Status.WriteFault → (status ≡ Status.WriteFault) ⊎ Rose (K.faults out.old) (K.faults out.new) }
-    ensures limit { (result ≡ Status.LongInput) ↔ (status ≡ Status.LongInput) }
-    ensures plain { IsPlain status → IsPlain result }
-    ensures later { K.faults out.old ≤ K.faults out.new }
-{
-    // What was cut off in the middle isn't written again.
-    if let Status::WriteFault = status {
-        return status;
+    /// The input is at its end: writes what is pending.
+    fn close<K: Sink>(&self, out: &mut K) -> Status
+        ensures ended { (before : Option (List ℕ)) (text : List ℕ)
+            → Reached self.now.run before (K.got out.old) self.now.pending text [] → Ended result text before (K.got out.new) }
+        ensures answered { ¬ (Rose (K.faults out.old) (K.faults out.new)) → (before : Option (List ℕ)) (text : List ℕ)
+            → Reached self.now.run before (K.got out.old) self.now.pending text [] → WroteAnswers text [] before (K.got out.new) }
+        ensures status { IsJudged result ⊎ (result ≡ Status.WriteFault) }
+        ensures write { result ≡ Status.WriteFault → Rose (K.faults out.old) (K.faults out.new) }
+        ensures out_kept { result ≢ Status.WriteFault → K.faults out.new ≡ K.faults out.old }
+    {
+        match write_all(out, self.pending.bytes()) {
+            Ok(()) => self.run.ending(),
+            Err(Failed) => Status::WriteFault,
+        }
     }
-    match write_all(out, pending) {
-        Ok(()) => status,
-        Err(_) => status.after_write_fault(),
+
+    /// The run is cut off: writes what is pending, but not again what a fault has cut off in the middle. A second fault
+    /// changes nothing.
+    fn stop<K: Sink>(&self, fault: RunFault, out: &mut K) -> Status
+        ensures status { result ≡ status_of fault }
+        ensures ended { (left before : Option (List ℕ)) (text : List ℕ)
+            → StoppedBy fault left before (K.got out.old) self.now.pending text → Ended result text before (K.got out.new) }
+        ensures answered { fault ≢ RunFault.Write → ¬ (Rose (K.faults out.old) (K.faults out.new))
+            → (left before : Option (List ℕ)) (text : List ℕ)
+            → StoppedBy fault left before (K.got out.old) self.now.pending text
+            → WroteWhole result text left before (K.got out.new) }
+        ensures later { K.faults out.old ≤ K.faults out.new }
+    {
+        if let RunFault::Write = fault {
+            return Status::WriteFault;
+        }
+        let _ = write_all(out, self.pending.bytes());
+        fault.status()
     }
 }
 
 /// Judges each line of the input in order, and writes its answer.
 pub fn replay_input<S: Source, K: Sink>(alloc: Global, input: &mut S, out: &mut K) -> Status
     ensures ended { (text : List ℕ) → S.left input.old ≡ Some text → Ended result text (K.got out.old) (K.got out.new) }
+    ensures answered { ¬ (Rose (K.faults out.old) (K.faults out.new)) → (text : List ℕ) → S.left input.old ≡ Some text
+        → WroteWhole result text (S.left input.new) (K.got out.old) (K.got out.new) }
     ensures read { result ≡ Status.ReadFault → Rose (S.faults input.old) (S.faults input.new) }
+    ensures input_kept { result ≢ Status.ReadFault → S.faults input.new ≡ S.faults input.old }
     ensures write { result ≡ Status.WriteFault → Rose (K.faults out.old) (K.faults out.new) }
-    ensures took { Took (S.left input.old) (S.left input.new) (S.taken input.old) (S.taken input.new) result }
-    ensures plain { IsPlain result }
+    ensures out_kept { IsJudged result → K.faults out.new ≡ K.faults out.old }
+    ensures took { TookInput (S.left input.old) (S.left input.new) (S.taken input.old) (S.taken input.new) result }
+    ensures plain { (result ≢ Status.Usage) × (result ≢ Status.AcceptFault) × (result ≢ Status.Spent) }
 {
     let Ok(mut replay) = Replay::new(alloc) else {
         return Status::Memory;
     };
-    let status = 'lines: loop {
-        if let Turn::Ended(status) = replay.turn(alloc, input, out) {
-            break status;
+    'lines: loop {
+        match replay.turn(alloc, input, out) {
+            Ok(Turn::Next) => {}
+            Ok(Turn::End) => return replay.close(out),
+            Err(fault) => return replay.stop(fault, out),
         }
-    };
-    finish(status, replay.pending.bytes(), out)
+    }
 }

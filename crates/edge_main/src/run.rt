@@ -1,44 +1,56 @@
-ghost use Rattle.std.specs.Prelude.{◌≤◌};
+ghost use Rattle.std.specs.Prelude.{◌≡◌, ◌<◌, ◌^◌, cond, OnOk};
+ghost use Rattle.serde_json.specs.View.{view};
+ghost use Rattle.edge_main.specs.Deployment.{deployment_of};
+ghost use Rattle.edge_main.specs.Answered.{opening, passed_by, refused, redeployed, judged};
+ghost use Rattle.edge_main.specs.Running.{Came, AnsweredLine};
 
-use crate::deployment::{Deployed, deployed_of};
+use crate::deployment::{Deployed, deployment_of};
 use crate::judging::verdict_of;
 use crate::statuses::Status;
 use edge_base::{Memory, Request, TextBuilder};
 use serde_json::Value;
 use std::alloc::Global;
+use std::marker::Model;
 use trace_form::{
     BadCause, LineFault, LineItem, LineParts, Recorded, push_bad_line, push_deploy_line, push_line,
     read_item,
 };
 
-/// How far a run of `replay` has come.
+/// How far a run of `replay` has come. Contracts see its state.
 #[derive(Debug, Drop)]
 pub struct Run {
     /// The lines so far, blank and bad ones too.
-    pub lines: u64,
+    lines: u64,
     /// The requests so far.
-    pub requests: u64,
+    requests: u64,
     /// The number of the version in force.
-    pub version: u64,
-    pub deployed: Deployed,
+    version: u64,
+    deployed: Deployed,
     /// Whether a line was no item.
-    pub any_bad: bool,
-    ghost few_requests: { requests ≤ lines },
-    ghost few_versions: { version ≤ lines },
+    any_bad: bool,
+}
+
+impl Model for Run {
+    ghost use Rattle.std.specs.Prelude.{◌≤◌};
+    ghost use Rattle.edge_main.specs.Answered.{RunState};
+
+    ghost Value = { RunState };
+
+    ghost view = { λ run. record {
+      lines = run.lines;
+      requests = run.requests;
+      version = run.version;
+      deployed = run.deployed;
+      any_bad = run.any_bad;
+    } };
+
+    ghost invariant = { λ run. (run.requests ≤ run.lines) × (run.version ≤ run.lines) };
 }
 
 impl Run {
-    ghost use Rattle.std.specs.Prelude.{◌≡◌, ◌<◌, ◌^◌, [], false, cond, OnOk};
-    ghost use Rattle.serde_json.specs.View.{view};
-    ghost use Rattle.edge_main.specs.Deployment.{deployed_of};
-    ghost use Rattle.edge_main.specs.Output.{opening, passed_by};
-    ghost use Rattle.edge_main.specs.Running.{state_of, Answered, Refused, Redeployed, Judged};
-
     /// Nothing was read yet, and version 0 is in force.
     pub fn new() -> Run
-        ensures state { state_of result ≡ opening }
-        ensures good { result.any_bad ≡ false }
-        ensures lines { result.lines ≡ 0 }
+        ensures { result ≡ opening }
     {
         Run {
             lines: 0,
@@ -52,9 +64,7 @@ impl Run {
     /// A line that changes nothing and is not answered.
     fn pass_by(&mut self, answer: &mut TextBuilder)
         requires { self.old.lines < 2 ^ 40 }
-        ensures text { answer.new ≡ [] }
-        ensures state { state_of self.new ≡ passed_by (state_of self.old) }
-        ensures bad { self.new.any_bad ≡ self.old.any_bad }
+        ensures { Came (passed_by self.old) answer.new self.new }
     {
         answer.clear();
         self.lines += 1;
@@ -63,7 +73,7 @@ impl Run {
     /// A line that is no item.
     pub fn refuse(&mut self, answer: &mut TextBuilder) -> Result<(), Memory>
         requires { self.old.lines < 2 ^ 40 }
-        ensures { OnOk result (Refused self.old answer.new self.new) }
+        ensures { OnOk result (Came (refused self.old) answer.new self.new) }
     {
         answer.clear();
         push_bad_line(answer, self.lines + 1, BadCause::Unsupported)?;
@@ -80,9 +90,9 @@ impl Run {
         answer: &mut TextBuilder,
     ) -> Result<(), Memory>
         requires { self.old.lines < 2 ^ 40 }
-        ensures { OnOk result (Redeployed (deployed_of (view value.now)) self.old answer.new self.new) }
+        ensures { OnOk result (Came (redeployed self.old (deployment_of (view value.now))) answer.new self.new) }
     {
-        let Some(deployed) = deployed_of(alloc, value)? else {
+        let Some(deployed) = deployment_of(alloc, value)? else {
             return self.refuse(answer);
         };
         answer.clear();
@@ -101,7 +111,7 @@ impl Run {
         answer: &mut TextBuilder,
     ) -> Result<(), Memory>
         requires { self.old.lines < 2 ^ 40 }
-        ensures { OnOk result (Judged self.old request answer.new self.new) }
+        ensures { OnOk result (Came (judged self.old request) answer.new self.new) }
     {
         let parts = LineParts {
             number: self.requests + 1,
@@ -124,7 +134,7 @@ impl Run {
         answer: &mut TextBuilder,
     ) -> Result<(), Memory>
         requires { self.old.lines < 2 ^ 40 }
-        ensures { OnOk result (Answered self.old given.now answer.new self.new) }
+        ensures { OnOk result (AnsweredLine self.old given.now answer.new self.new) }
     {
         match read_item(alloc, given) {
             Ok(LineItem::Blank) => {

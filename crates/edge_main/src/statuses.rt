@@ -1,5 +1,5 @@
 ghost use Rattle.std.specs.Prelude.{◌≡◌};
-ghost use Rattle.edge_main.specs.Statuses.{code_of, said_of, after_write_fault};
+ghost use Rattle.edge_main.specs.Statuses.{code_of, said_of};
 
 /// How a run ended.
 #[derive(Clone, Copy, Debug, PartialEq, Eq)]
@@ -50,16 +50,6 @@ impl Status {
             Status::AcceptFault => b"edge: accept fault\n",
             Status::LongInput => b"edge: input too long\n",
             Status::Spent => b"edge: steps spent\n",
-        }
-    }
-
-    /// The status of a run whose last answers could not be written: the first fault is the one that is told.
-    pub fn after_write_fault(self) -> Status
-        ensures { result ≡ after_write_fault self }
-    {
-        match self {
-            Status::Done | Status::BadItems => Status::WriteFault,
-            status => status,
         }
     }
 }

@@ -1,10 +1,12 @@
-use Rattle.std.proofs.Common.{◌+◌, ◌++◌, [], length, sym, ap, subst, ◌∙◌, arith, length-append}
+use Rattle.std.proofs.Common.{◌≡◌, ◌++◌, [], length, Ok, Err, refl, sym, ap, subst, ◌∙◌, arith, length-append}
 use Rattle.std.proofs.KnownBytes.{Appends-nil, Consumes-nil, Appends-trans, Consumes-trans}
+use Rattle.edge_outside.specs.Faults.{Rose}
 use Rattle.edge_main.specs.declared.statuses.Status.TheVariants as status
-use Rattle.edge_main.specs.declared.replay.Turn.TheVariants as turn
-use Rattle.edge_main.specs.Running.{TurnOf}
+use Rattle.edge_main.specs.declared.replay.RunFault.TheVariants as fault
+use Rattle.edge_main.specs.Answered.{RunState}
+use Rattle.edge_main.specs.Running.{TurnOf, status_of}
 use Rattle.edge_main.proofs.OutputLemmas.{every_input_has_an_output}
-use Rattle.edge_main.proofs.RunningLemmas.{progress-opening, ended-same}
+use Rattle.edge_main.proofs.RunningLemmas.{progress-opening, answers-none, took-input, judged-or-cut, long-status, same-fault}
 use Rattle.edge_main.proofs.replay.replay_input.Goals as goal
 
 pub returns-in_default-clause-ended : goal.returns-in_default-clause-ended
@@ -12,54 +14,93 @@ returns-in_default-clause-ended g c text told =
     let some = every_input_has_an_output text in
     ([], some.0, Appends-nil (g.K.Sink.got c.args.out.now), some.1)
 
+pub returns-in_default-clause-answered : goal.returns-in_default-clause-answered
+returns-in_default-clause-answered g c steady text told =
+    answers-none status.Memory (g.K.Sink.got c.args.out.now) (g.S.Source.left c.args.input.now) text
+    (λ e. let never : status.Memory ≡ status.ReadFault = e in cc)
+
 pub lines-init : goal.lines-init
 lines-init g c =
     let opens = c.in-Ok.ensures in
     record {
-      progress = λ text told. progress-opening c.in-Ok.replay (g.S.Source.left c.args.input.now) (g.K.Sink.got c.args.out.now) text opens told;
-      room = omega (arith, opens.lines, opens.weight);
-      bytes = [];
-      consumed = Consumes-nil (g.S.Source.left c.args.input.now);
-      appended = Appends-nil (g.S.Source.taken c.args.input.now);
-      counted = opens.taken;
-      read_later = omega arith;
-      write_later = omega arith;
+      under_way = record {
+        progress = λ text told. progress-opening c.in-Ok.replay (g.S.Source.left c.args.input.now) (g.K.Sink.got c.args.out.now) text opens told;
+        room = omega (arith, ap (λ (s : RunState). s.lines) opens.run, opens.weight);
+        bytes = [];
+        consumed = Consumes-nil (g.S.Source.left c.args.input.now);
+        appended = Appends-nil (g.S.Source.taken c.args.input.now);
+        counted = opens.taken;
+      };
+      input_kept = refl;
+      out_kept = refl;
     }
 
 pub lines-preserved : goal.lines-preserved
 lines-preserved g c =
-    let before = c.lines.invariant in
+    let before = c.lines.invariant.under_way in
     let took = c.turn.ensures.took in
     let got = g.K.Sink.got c.args.out.now in
+    let next = c.in-Ok-Next.is ∙ ap Ok c.in-Ok-Next.field-0-is in
+    let run = c.turn.new.self in
     record {
-      progress = λ text told.
-          subst (λ t. TurnOf t c.turn.new.self.run c.turn.new.self.reader (g.S.Source.left c.turn.new.input) got (g.K.Sink.got c.turn.new.out) c.turn.new.self.pending text)
-          c.in_default-turn.is (c.turn.ensures.turn got text (before.progress text told));
-      room = c.turn.ensures.room c.in_default-turn.is;
-      bytes = before.bytes ++ took.bytes;
-      consumed = Consumes-trans (g.S.Source.left c.args.input.now) (g.S.Source.left c.lines.input) (g.S.Source.left c.turn.new.input)
-          before.bytes took.bytes before.consumed took.left;
-      appended = Appends-trans (g.S.Source.taken c.args.input.now) (g.S.Source.taken c.lines.input) (g.S.Source.taken c.turn.new.input)
-          before.bytes took.bytes before.appended took.taken;
-      counted = took.counted ∙ ap (λ n. n + length took.bytes) before.counted ∙ sym (length-append before.bytes took.bytes);
-      read_later = omega (arith, before.read_later, c.turn.ensures.input_later);
-      write_later = omega (arith, before.write_later, c.turn.ensures.out_later);
+      under_way = record {
+        progress = λ text told.
+            subst (λ t. TurnOf t run.run run.reader (g.S.Source.left c.turn.new.input) got (g.K.Sink.got c.turn.new.out) run.pending text) next
+            (c.turn.ensures.turn got text (before.progress text told));
+        room = c.turn.ensures.room next;
+        bytes = before.bytes ++ took.bytes;
+        consumed = Consumes-trans (g.S.Source.left c.args.input.now) (g.S.Source.left c.lines.input) (g.S.Source.left c.turn.new.input)
+            before.bytes took.bytes before.consumed took.left;
+        appended = Appends-trans (g.S.Source.taken c.args.input.now) (g.S.Source.taken c.lines.input) (g.S.Source.taken c.turn.new.input)
+            before.bytes took.bytes before.appended took.taken;
+        counted = omega (arith, took.counted, before.counted, length-append before.bytes took.bytes);
+      };
+      input_kept = c.in-Ok-Next.ensures.input_kept (λ e. let never : Ok c.in-Ok-Next.field-0 ≡ Err fault.Read = e in cc) ∙ c.lines.invariant.input_kept;
+      out_kept = c.in-Ok-Next.ensures.out_kept (λ e. let never : Ok c.in-Ok-Next.field-0 ≡ Err fault.Write = e in cc) ∙ c.lines.invariant.out_kept;
     }
 
-pub returns-clause-took : goal.returns-clause-took
-returns-clause-took g c =
-    let before = c.lines.invariant in
-    let took = c.turn.ensures.took in
-    let counted = took.counted ∙ ap (λ n. n + length took.bytes) before.counted ∙ sym (length-append before.bytes took.bytes) in
-    record {
-      bytes = before.bytes ++ took.bytes;
-      left = Consumes-trans (g.S.Source.left c.args.input.now) (g.S.Source.left c.lines.input) (g.S.Source.left c.turn.new.input)
-          before.bytes took.bytes before.consumed took.left;
-      taken = Appends-trans (g.S.Source.taken c.args.input.now) (g.S.Source.taken c.lines.input) (g.S.Source.taken c.turn.new.input)
-          before.bytes took.bytes before.appended took.taken;
-      limit = (
-        (λ long. sym counted ∙ c.turn.ensures.limit.0 (c.in-Ended.is ∙ ap turn.Ended (c.finish.ensures.limit.0 long))),
-        (λ full. c.finish.ensures.limit.1
-            (ended-same c.in-Ended.status status.LongInput (sym c.in-Ended.is ∙ c.turn.ensures.limit.1 (counted ∙ full)))),
-      );
-    }
+pub returns-in-Ok-End-clause-ended : goal.returns-in-Ok-End-clause-ended
+returns-in-Ok-End-clause-ended g c text told =
+    let got = g.K.Sink.got c.args.out.now in
+    let run = c.turn.new.self in
+    c.close.ensures.ended got text
+    (subst (λ t. TurnOf (Ok t) run.run run.reader (g.S.Source.left c.turn.new.input) got (g.K.Sink.got c.turn.new.out) run.pending text)
+    c.in-Ok-End.field-0-is (c.in-Ok-End.ensures.turn got text (c.lines.invariant.under_way.progress text told)))
+
+pub returns-in-Ok-End-clause-answered : goal.returns-in-Ok-End-clause-answered
+returns-in-Ok-End-clause-answered g c steady text told =
+    let got = g.K.Sink.got c.args.out.now in
+    let run = c.turn.new.self in
+    let kept = c.in-Ok-End.ensures.out_kept (λ e. let never : Ok c.in-Ok-End.field-0 ≡ Err fault.Write = e in cc) ∙ c.lines.invariant.out_kept in (
+      [],
+      c.close.ensures.answered (subst (λ n. ¬ (Rose n (g.K.Sink.faults c.close.new.out))) (sym kept) steady) got text
+          (subst (λ t. TurnOf (Ok t) run.run run.reader (g.S.Source.left c.turn.new.input) got (g.K.Sink.got c.turn.new.out) run.pending text)
+          c.in-Ok-End.field-0-is (c.in-Ok-End.ensures.turn got text (c.lines.invariant.under_way.progress text told))),
+      λ e. absurd ((judged-or-cut c.close.result c.close.ensures.status).1 e),
+    )
+
+pub returns-in-Ok-End-clause-took : goal.returns-in-Ok-End-clause-took
+returns-in-Ok-End-clause-took g c =
+    let before = c.lines.invariant.under_way in
+    took-input c.lines.replay.reader c.turn.new.self.reader (g.S.Source.left c.args.input.now) (g.S.Source.left c.lines.input)
+    (g.S.Source.left c.turn.new.input) (g.S.Source.taken c.args.input.now) (g.S.Source.taken c.lines.input) (g.S.Source.taken c.turn.new.input)
+    c.close.result before.bytes before.consumed before.appended before.counted c.turn.ensures.took (
+      λ long. absurd ((judged-or-cut c.close.result c.close.ensures.status).0 long),
+      λ full. let never : Ok c.in-Ok-End.field-0 ≡ Err fault.LongInput = c.in-Ok-End.ensures.limit.1 full in cc,
+    )
+
+pub returns-in-Err-clause-ended : goal.returns-in-Err-clause-ended
+returns-in-Err-clause-ended g c text told =
+    let got = g.K.Sink.got c.args.out.now in
+    c.stop.ensures.ended (g.S.Source.left c.turn.new.input) got text
+    (c.in-Err.ensures.turn got text (c.lines.invariant.under_way.progress text told))
+
+pub returns-in-Err-clause-took : goal.returns-in-Err-clause-took
+returns-in-Err-clause-took g c =
+    let before = c.lines.invariant.under_way in
+    took-input c.lines.replay.reader c.turn.new.self.reader (g.S.Source.left c.args.input.now) (g.S.Source.left c.lines.input)
+    (g.S.Source.left c.turn.new.input) (g.S.Source.taken c.args.input.now) (g.S.Source.taken c.lines.input) (g.S.Source.taken c.turn.new.input)
+    c.stop.result before.bytes before.consumed before.appended before.counted c.turn.ensures.took (
+      λ long. c.in-Err.ensures.limit.0 (ap Err (long-status c.in-Err.fault (sym c.stop.ensures.status ∙ long))),
+      λ full. c.stop.ensures.status ∙ ap status_of (same-fault c.turn.result c.in-Err.fault fault.LongInput c.in-Err.is (c.turn.ensures.limit.1 full)),
+    )

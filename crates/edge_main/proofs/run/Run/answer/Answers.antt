@@ -1,27 +1,36 @@
-use Rattle.std.proofs.Common.{refl, subst}
+use Rattle.std.proofs.Common.{Err, refl, subst, ap, inl, ◌∙◌}
 use Rattle.serde_json.specs.View.{view}
 use Rattle.trace_form.specs.Item.{IsItem}
-use Rattle.edge_main.specs.Deployment.{deployed_of}
-use Rattle.edge_main.proofs.RunLemmas.{OnOk-said, answered-blank, answered-deploy, answered-ask}
+use Rattle.edge_main.specs.Answered.{passed_by, refused, redeployed, judged}
+use Rattle.edge_main.specs.Deployment.{deployment_of}
+use Rattle.edge_main.specs.Output as answered
+use Rattle.edge_main.proofs.OutputLemmas.{deployment-answered}
+use Rattle.edge_main.proofs.RunLemmas.{OnOk-said, unsupported}
 use Rattle.edge_main.proofs.run.Run.answer.Goals as goal
 
 pub returns-in-Ok-Blank : goal.returns-in-Ok-Blank
 returns-in-Ok-Blank c =
-    answered-blank c.args.self.now c.pass_by.new.self c.args.given.now c.pass_by.new.answer
-    (subst (IsItem c.args.given.now) c.in-Ok-Blank.field-0-is c.in-Ok-Blank.ensures.ok)
-    c.pass_by.ensures.text c.pass_by.ensures.state c.pass_by.ensures.bad
+    let blank = subst (IsItem c.args.given.now) c.in-Ok-Blank.field-0-is c.in-Ok-Blank.ensures.ok in
+    (passed_by c.args.self.now, answered.blank blank refl, c.pass_by.ensures)
 
 pub returns-in-Ok-Deploy : goal.returns-in-Ok-Deploy
 returns-in-Ok-Deploy c =
+    let s = c.args.self.now in
+    let value = view c.in-Ok-Deploy.value in
+    let deploy = subst (IsItem c.args.given.now) c.in-Ok-Deploy.field-0-is c.in-Ok-Deploy.ensures.ok in
     OnOk-said c.deploy.result _ _
-    (answered-deploy c.args.self.now c.deploy.new.self c.args.given.now c.deploy.new.answer (view c.in-Ok-Deploy.value)
-    (subst (IsItem c.args.given.now) c.in-Ok-Deploy.field-0-is c.in-Ok-Deploy.ensures.ok)
-    (deployed_of (view c.in-Ok-Deploy.value)) refl)
+    (λ came. (redeployed s (deployment_of value), deployment-answered s c.args.given.now value deploy (deployment_of value) refl, came))
     c.deploy.ensures
 
 pub returns-in-Ok-Ask : goal.returns-in-Ok-Ask
 returns-in-Ok-Ask c =
-    OnOk-said c.judge.result _ _
-    (answered-ask c.args.self.now c.judge.new.self c.args.given.now c.judge.new.answer c.in-Ok-Ask.recorded.request
-    (subst (IsItem c.args.given.now) c.in-Ok-Ask.field-0-is c.in-Ok-Ask.ensures.ok).0)
-    c.judge.ensures
+    let s = c.args.self.now in
+    let asked = c.in-Ok-Ask.recorded.request in
+    let ask = (subst (IsItem c.args.given.now) c.in-Ok-Ask.field-0-is c.in-Ok-Ask.ensures.ok).0 in
+    OnOk-said c.judge.result _ _ (λ came. (judged s asked, answered.request asked ask refl, came)) c.judge.ensures
+
+pub returns-in-Err-Bad : goal.returns-in-Err-Bad
+returns-in-Err-Bad c =
+    OnOk-said c.refuse.result _ _
+    (λ came. (refused c.args.self.now, answered.bad (inl (c.in-Err-Bad.ensures.bad (ap Err (c.in-Err-Bad.field-0-is ∙ unsupported c.in-Err-Bad.field-0-0)))) refl, came))
+    c.refuse.ensures

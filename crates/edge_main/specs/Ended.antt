@@ -1,0 +1,61 @@
+-- What the top call promises where it ended with a status: of what was written, and of what was taken.
+use Rattle.std.specs.Prelude.{◌≡◌, ℕ, ◌^◌, ◌↔◌, ◌⊎◌, Bool, true, false, List, [], ◌++◌, length, Option, Some}
+use Rattle.std.specs.Io.KnownBytes.{Appends, Consumes}
+use Rattle.edge_outside.specs.Lines.{lines_of, NoNewline}
+use Rattle.edge_main.specs.declared.statuses.Status.{Status}
+use Rattle.edge_main.specs.declared.statuses.Status.TheVariants as status
+use Rattle.edge_main.specs.Answered.{RunState, opening, Answered}
+use Rattle.edge_main.specs.Output.{IsRun, IsRunOf, IsOutput, texts_of}
+
+-- the output of a run over the whole input was written; `any_bad` says whether a line was no item
+pub record WroteOutput (any_bad : Bool) (text : List ℕ) (before now : Option (List ℕ)) : Type 0 where
+  pub run : List Answered
+  pub to : RunState
+  pub is_run : IsRunOf text run to
+  pub appends : Appends before now (texts_of run)
+  pub is_bad : to.any_bad ≡ any_bad
+
+-- the front, in bytes, of an output was written
+abbrev pub WroteFront : List ℕ → Option (List ℕ) → Option (List ℕ) → Type 0
+WroteFront text before now = (written more : List ℕ) × Appends before now written × IsOutput text (written ++ more)
+
+-- the answers of all lines before this rest of the input were written, and nothing else
+pub record WroteAnswers (text rest : List ℕ) (before now : Option (List ℕ)) : Type 0 where
+  pub front : List (List ℕ)
+  pub is_front : lines_of text ≡ front ++ lines_of rest
+  pub run : List Answered
+  pub to : RunState
+  pub is_run : IsRun opening front run to
+  pub appends : Appends before now (texts_of run)
+
+-- of the rest no whole line was taken: what isn't left in the input has no newline
+abbrev pub IsBegun : List ℕ → Option (List ℕ) → Type 0
+IsBegun rest left = (begun after : List ℕ) × NoNewline begun × (left ≡ Some after) × (rest ≡ begun ++ after)
+
+-- the answers of whole lines were written; where a read failed, of every line that was taken
+abbrev pub WroteWhole : Status → List ℕ → Option (List ℕ) → Option (List ℕ) → Option (List ℕ) → Type 0
+WroteWhole ended text left before now =
+    (rest : List ℕ) × WroteAnswers text rest before now × (ended ≡ status.ReadFault → IsBegun rest left)
+
+-- the run ended with this status
+abbrev pub Ended : Status → List ℕ → Option (List ℕ) → Option (List ℕ) → Type 0
+Ended status.Done text before now = WroteOutput false text before now
+Ended status.BadItems text before now = WroteOutput true text before now
+Ended status.ReadFault text before now = WroteFront text before now
+Ended status.WriteFault text before now = WroteFront text before now
+Ended status.Memory text before now = WroteFront text before now
+Ended status.LongInput text before now = WroteFront text before now
+Ended status.Usage text before now = Appends before now []
+Ended status.AcceptFault text before now = ⊥
+Ended status.Spent text before now = ⊥
+
+-- bytes were taken from the input; the run ended for the length of the input exactly where they are 2^40
+pub record TookInput (left_before left_after taken_before taken_after : Option (List ℕ)) (ended : Status) : Type 0 where
+  pub bytes : List ℕ
+  pub left : Consumes left_before left_after bytes
+  pub taken : Appends taken_before taken_after bytes
+  pub limit : (ended ≡ status.LongInput) ↔ (length bytes ≡ 2 ^ 40)
+
+-- the input was judged whole
+abbrev pub IsJudged : Status → Type 0
+IsJudged ended = (ended ≡ status.Done) ⊎ (ended ≡ status.BadItems)
