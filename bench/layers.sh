@@ -71,11 +71,17 @@ for size in (1024, 4096):
 for name in ('has_addr', 'has_text'):
     for size in (50, 500, 5000, 50000):
         told(name, size)
-# `wild` has four short pieces, so that a doubling of the text can double its time at most. The other two have a piece half as
-# long as the text, at the end or anywhere: there both lengths double, and the time grows four times at most.
+# `wild` has four short pieces. The other two have a piece half as long as the text, at the end or anywhere: there both
+# lengths double. A doubling of the text can double the time of each at most.
 for name in ('wild', 'wild_long', 'wild_middle'):
     last = None
     for doubled in range(7):
         last = told(name, 1000 * 2 ** doubled, last)
+# Maps of many arguments, whose names are spread or look alike for 64 bytes: the time may grow a little more than they do.
+told('names', 100)
+for name in ('map', 'map_alike'):
+    last = None
+    for size in (100, 2325, 4650, 9300):
+        last = told(name, size, last)
 print('at the end: %s' % load())
 P
