@@ -1,7 +1,7 @@
 -- What a line reader stands for, and what each of its steps says of the text before it.
 use Rattle.std.specs.Prelude.{◌≡◌, ℕ, ◌+◌, ◌-◌, ◌^◌, ◌<◌, ◌≤◌, Bool, true, false, List, [], ◌∷◌, ◌++◌, length, Option, Some, None}
 use Rattle.std.specs.Prelude.{option_to_list, if◌then◌else◌, Result, IfOk}
-use Rattle.std.specs.Io.KnownBytes.{IsAtEnd}
+use Rattle.std.specs.Io.KnownBytes.{Appends, Consumes, IsAtEnd}
 use Rattle.edge_outside.specs.Lines.{lines_of, NoNewline}
 use Rattle.edge_outside.specs.Told.{Gave}
 use Rattle.edge_outside.specs.declared.failure.Failed.{Failed}
@@ -75,7 +75,8 @@ TookFrom left taken source source' reader reader' result =
 -- the reader counted what its source gave
 abbrev pub TakesOn : {S : Type 0} → (S → Option (List ℕ)) → (S → Option (List ℕ)) → S → S → LineReader → LineReader → Type 0
 TakesOn left taken source source' reader reader' =
-    (bytes : List ℕ) × Gave left taken source source' bytes × (reader'.taken ≡ reader.taken + length bytes)
+    (bytes : List ℕ) × Consumes (left source) (left source') bytes × Appends (taken source) (taken source') bytes
+    × (reader'.taken ≡ reader.taken + length bytes)
 
 -- all that was taken was looked at
 abbrev pub IsLooked : LineReader → Type 0

@@ -6,13 +6,14 @@ use Rattle.edge_outside.proofs.line_reader.LineReader.next.Goals as goal
 
 -- bytes were taken twice
 taken-more : (left now more taken had has : Option (List ℕ)) (before at after : ℕ)
-    → ((bytes : List ℕ) × (Consumes left now bytes × Appends taken had bytes) × (at ≡ before + length bytes))
+    → ((bytes : List ℕ) × Consumes left now bytes × Appends taken had bytes × (at ≡ before + length bytes))
     → (bytes : List ℕ) → Consumes now more bytes × Appends had has bytes → after ≡ at + length bytes
-    → (bytes : List ℕ) × (Consumes left more bytes × Appends taken has bytes) × (after ≡ before + length bytes)
+    → (bytes : List ℕ) × Consumes left more bytes × Appends taken has bytes × (after ≡ before + length bytes)
 taken-more left now more taken had has before at after first bytes gave is = (
   first.0 ++ bytes,
-  (Consumes-trans left now more first.0 bytes first.1.0 gave.0, Appends-trans taken had has first.0 bytes first.1.1 gave.1),
-  omega (arith, length-append first.0 bytes, first.2),
+  Consumes-trans left now more first.0 bytes first.1 gave.0,
+  Appends-trans taken had has first.0 bytes first.2 gave.1,
+  omega (arith, length-append first.0 bytes, first.3),
 )
 
 pub returns-in-Err-clause-lines : goal.returns-in-Err-clause-lines
