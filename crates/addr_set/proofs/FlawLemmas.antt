@@ -9,7 +9,7 @@ use Rattle.edge_base.specs.declared.expression.Item.TheVariants as item
 use Rattle.addr_set.specs.declared.reading.ItemFault.{ItemFault}
 use Rattle.addr_set.specs.declared.reading.ItemFault.TheVariants as fault
 use Rattle.addr_set.specs.Sets.{width_of, IsRange, IsAddrItem}
-use Rattle.addr_set.specs.ItemTexts.{IsBelow, IsGoodText, IsNoItem, IsLongPrefix, IsBackward, IsFirstFlaw, AreReadAs, ReadingsAreUnique}
+use Rattle.addr_set.specs.ItemTexts.{IsBelow, IsGoodText, IsNoItemText, IsLongPrefix, IsBackward, IsFirstFlaw, AreReadAs, ReadingsAreUnique}
 use Rattle.addr_set.proofs.ReadingLemmas.{IsItemText-unique}
 
 -- ---- one text
@@ -28,7 +28,7 @@ range_not_below (addr.V4 m) (addr.V6 n) range below = range
 range_not_below (addr.V6 m) (addr.V4 n) range below = range
 range_not_below (addr.V6 m) (addr.V6 n) range below = omega arith
 
-no_item_never_good : IsNeverGood IsNoItem
+no_item_never_good : IsNeverGood IsNoItemText
 no_item_never_good text one good none = none one good.spelled
 
 long_never_good : IsNeverGood IsLongPrefix
@@ -42,10 +42,10 @@ backward_never_good text one good back =
     let same = IsItemText-unique text one (item.Addrs back.0 back.1) good.spelled back.2 in
     range_not_below back.0 back.1 (subst IsAddrItem same good.is_good) back.3
 
-no_item_not_long : AreNeverBoth IsNoItem IsLongPrefix
+no_item_not_long : AreNeverBoth IsNoItemText IsLongPrefix
 no_item_not_long text none long = none (item.Block long.0 long.1) long.2
 
-no_item_not_backward : AreNeverBoth IsNoItem IsBackward
+no_item_not_backward : AreNeverBoth IsNoItemText IsBackward
 no_item_not_backward text none back = none (item.Addrs back.0 back.1) back.2
 
 long_not_backward : AreNeverBoth IsLongPrefix IsBackward
@@ -91,26 +91,26 @@ module _ (HasFlaw HasOther : List ℕ → Type 0) (never : IsNeverGood HasFlaw) 
 
 pub one_reading : ReadingsAreUnique
 one_reading texts (Ok a) (Ok b) m n h k = ap Ok (one_list texts a b h k)
-one_reading texts (Ok a) (Err (fault.BadAddr at)) m n h k = absurd (read_or_flawed IsNoItem no_item_never_good texts a at h k)
+one_reading texts (Ok a) (Err (fault.BadAddr at)) m n h k = absurd (read_or_flawed IsNoItemText no_item_never_good texts a at h k)
 one_reading texts (Ok a) (Err (fault.BadPrefix at)) m n h k = absurd (read_or_flawed IsLongPrefix long_never_good texts a at h k)
 one_reading texts (Ok a) (Err (fault.BackwardRange at)) m n h k = absurd (read_or_flawed IsBackward backward_never_good texts a at h k)
-one_reading texts (Err (fault.BadAddr at)) (Ok b) m n h k = absurd (read_or_flawed IsNoItem no_item_never_good texts b at k h)
+one_reading texts (Err (fault.BadAddr at)) (Ok b) m n h k = absurd (read_or_flawed IsNoItemText no_item_never_good texts b at k h)
 one_reading texts (Err (fault.BadPrefix at)) (Ok b) m n h k = absurd (read_or_flawed IsLongPrefix long_never_good texts b at k h)
 one_reading texts (Err (fault.BackwardRange at)) (Ok b) m n h k = absurd (read_or_flawed IsBackward backward_never_good texts b at k h)
 one_reading texts (Err (fault.BadAddr at)) (Err (fault.BadAddr other)) m n h k =
-    ap (λ place. Err (fault.BadAddr place)) (one_place IsNoItem IsNoItem no_item_never_good no_item_never_good texts at other h k)
+    ap (λ place. Err (fault.BadAddr place)) (one_place IsNoItemText IsNoItemText no_item_never_good no_item_never_good texts at other h k)
 one_reading texts (Err (fault.BadAddr at)) (Err (fault.BadPrefix other)) m n h k =
-    absurd (one_flaw IsNoItem IsLongPrefix no_item_never_good long_never_good texts at other h k no_item_not_long)
+    absurd (one_flaw IsNoItemText IsLongPrefix no_item_never_good long_never_good texts at other h k no_item_not_long)
 one_reading texts (Err (fault.BadAddr at)) (Err (fault.BackwardRange other)) m n h k =
-    absurd (one_flaw IsNoItem IsBackward no_item_never_good backward_never_good texts at other h k no_item_not_backward)
+    absurd (one_flaw IsNoItemText IsBackward no_item_never_good backward_never_good texts at other h k no_item_not_backward)
 one_reading texts (Err (fault.BadPrefix at)) (Err (fault.BadAddr other)) m n h k =
-    absurd (one_flaw IsNoItem IsLongPrefix no_item_never_good long_never_good texts other at k h no_item_not_long)
+    absurd (one_flaw IsNoItemText IsLongPrefix no_item_never_good long_never_good texts other at k h no_item_not_long)
 one_reading texts (Err (fault.BadPrefix at)) (Err (fault.BadPrefix other)) m n h k =
     ap (λ place. Err (fault.BadPrefix place)) (one_place IsLongPrefix IsLongPrefix long_never_good long_never_good texts at other h k)
 one_reading texts (Err (fault.BadPrefix at)) (Err (fault.BackwardRange other)) m n h k =
     absurd (one_flaw IsLongPrefix IsBackward long_never_good backward_never_good texts at other h k long_not_backward)
 one_reading texts (Err (fault.BackwardRange at)) (Err (fault.BadAddr other)) m n h k =
-    absurd (one_flaw IsNoItem IsBackward no_item_never_good backward_never_good texts other at k h no_item_not_backward)
+    absurd (one_flaw IsNoItemText IsBackward no_item_never_good backward_never_good texts other at k h no_item_not_backward)
 one_reading texts (Err (fault.BackwardRange at)) (Err (fault.BadPrefix other)) m n h k =
     absurd (one_flaw IsLongPrefix IsBackward long_never_good backward_never_good texts other at k h long_not_backward)
 one_reading texts (Err (fault.BackwardRange at)) (Err (fault.BackwardRange other)) m n h k =

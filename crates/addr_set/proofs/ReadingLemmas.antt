@@ -1,9 +1,11 @@
 -- Where `..` and `/` stand in the text of an item, and what is read on both sides.
-use Rattle.std.proofs.Common.{◌≡◌, ℕ, suc, ◌+◌, ◌-◌, ◌<◌, ◌≤◌, List, [], ◌∷◌, ◌++◌, length, get_or, take, drop, Some, None, Result, Ok, Err, refl, sym, ap, ◌∙◌, subst, inl, inr, arith, append_assoc, append-nil, length-append, add-one, add-zero, eqb-true, eq-eqb, take_at, drop_at, take-append-drop}
-use Rattle.std.proofs.lemmas.Bool.{cases_lt}
+use Rattle.std.proofs.Common.{◌≡◌, ◌≢◌, ℕ, Bool, true, not, ◌==◌, suc, ◌+◌, ◌-◌, ◌<◌, ◌≤◌, List, [], ◌∷◌, ◌++◌, length, get_or, take, drop, Some, None, Result, Ok, Err, refl, sym, ap, ◌∙◌, subst, inl, inr, arith, append_assoc, append-nil, length-append, add-one, add-zero, eqb-true, eq-eqb, take_at, drop_at, take-append-drop}
+use Rattle.std.proofs.lemmas.Bool.{cases_lt, and_from}
+use Rattle.std.proofs.lemmas.Bool.Decides.{nat_tests}
 use Rattle.std.proofs.lemmas.List.{get_or_append_left, get_or-append_right, get_or_past}
 use Rattle.std.proofs.Math.Seq.{drop-cons}
-use Rattle.std.specs.Str.Parse.{digits_value}
+use Rattle.std.specs.Str.Parse.{AllDigits}
+use Rattle.std.specs.List.{list_all, before_first, after_first}
 use Rattle.memchr.specs.Find.{IsFirstByte, FindsNeedle, OccursAt, is_byte}
 use Rattle.edge_base.specs.declared.address.Addr.{Addr}
 use Rattle.edge_base.specs.declared.address.Addr.TheVariants as addr
@@ -11,11 +13,14 @@ use Rattle.edge_base.specs.declared.expression.Lit.TheVariants as lit
 use Rattle.edge_base.specs.declared.expression.Item.{Item}
 use Rattle.edge_base.specs.declared.expression.Item.TheVariants as item
 use Rattle.edge_base.specs.Address.{IsAddrText}
+use Rattle.edge_base.specs.Token.{bits_of, IsBlockText}
 use Rattle.edge_base.proofs.AddressLemmas.{IsAddrText-unique}
+use Rattle.edge_base.proofs.BlockLemmas.{is_slash, block_joined, block_splits}
+use Rattle.addr_set.proofs.PrefixLemmas.{bits_digits}
 use Rattle.addr_set.specs.declared.reading.Flaw.{Flaw}
 use Rattle.addr_set.specs.declared.reading.Flaw.TheVariants as flaw
 use Rattle.addr_set.specs.Sets.{width_of, IsRange, IsAddrItem}
-use Rattle.addr_set.specs.ItemTexts.{IsOneFamily, IsBelow, IsRangeText, IsBlockText, IsItemText, IsNoItem, IsLongPrefix, IsBackward, IsRefused, ItemIsUnique}
+use Rattle.addr_set.specs.ItemTexts.{IsOneFamily, IsBelow, IsRangeText, IsItemText, IsNoItemText, IsLongPrefix, IsBackward, IsRefused, ItemIsUnique}
 use Rattle.addr_set.specs.Readings.{Reads, ReadsRange, ReadsBlock}
 use Rattle.addr_set.proofs.CleanLemmas.{HasNoSlash, HasDotsApart, HasDotsApart-append, HasDotsApart-digits, AllDigits-weaker, IsClean-address, no_slash_at, digit_after_dot}
 
@@ -94,11 +99,36 @@ range_place left right at apart found =
       ]
     ]
 
+-- the parts of the text of a block
+record BlockParts (text : List ℕ) (one : Addr) (bits : ℕ) : Type 0 where
+  left : List ℕ
+  digits : List ℕ
+  spelled : text ≡ left ++ 47 ∷ [] ++ digits
+  is_one : IsAddrText left one
+  is_bits : bits_of digits ≡ Some bits
+
+parts_of_block : (text : List ℕ) (one : Addr) (bits : ℕ) → IsBlockText text one bits → BlockParts text one bits
+parts_of_block text one bits h = record {
+  left = before_first is_slash text;
+  digits = after_first is_slash text;
+  spelled = block_splits text bits h.1 ∙ sym (append_assoc (before_first is_slash text) (47 ∷ []) (after_first is_slash text));
+  is_one = h.0;
+  is_bits = h.1;
+}
+
+no_slash_byte : (byte : ℕ) → byte ≢ 47 → not (is_slash byte) ≡ true
+no_slash_byte byte h = grind (arith, nat_tests)
+
+no_slashes : (bytes : List ℕ) → HasNoSlash bytes → list_all (λ byte. not (is_slash byte)) bytes ≡ true
+no_slashes [] h = refl
+no_slashes (byte ∷ bytes) h = and_from _ _ (no_slash_byte byte h.0) (no_slashes bytes h.1)
+
 -- the text of a block has its dots apart
 dots_of_block : (text : List ℕ) (base : Addr) (bits : ℕ) → IsBlockText text base bits → HasDotsApart text
-dots_of_block text base bits block =
+dots_of_block text base bits h =
+    let block = parts_of_block text base bits h in
     let left = (IsClean-address block.left base block.is_one).1 in
-    let digits = HasDotsApart-digits block.digits (AllDigits-weaker block.digits block.is_prefix.0.0.1) in
+    let digits = HasDotsApart-digits block.digits (AllDigits-weaker block.digits (bits_digits block.digits bits block.is_bits).all) in
     let slash : HasDotsApart (47 ∷ []) = (λ dot. absurd (omega arith), tt) in
     rw block.spelled (HasDotsApart-append (block.left ++ 47 ∷ []) block.digits (HasDotsApart-append block.left (47 ∷ []) left slash) digits)
 
@@ -127,7 +157,7 @@ module _ (text : List ℕ) (at : ℕ) (found : FindsNeedle text dots 0 (Some at)
       })
   Reads-range (Err flaw.Address) none = no_item
     where
-      no_item : IsNoItem text
+      no_item : IsNoItemText text
       no_item (item.One (lit.Text t)) h = h
       no_item (item.One (lit.Num n)) h = h
       no_item (item.One (lit.Bool b)) h = h
@@ -159,7 +189,7 @@ dots_of_range text first last h nowhere =
     nowhere (length h.left) (omega arith) (omega (arith, occurs.fits)) occurs
 
 -- a block has `/` after its address
-slash_of_block : (text : List ℕ) (base : Addr) (bits : ℕ) (h : IsBlockText text base bits) → (length h.left < length text) × (get_or text (length h.left) 0 ≡ 47)
+slash_of_block : (text : List ℕ) (base : Addr) (bits : ℕ) (h : BlockParts text base bits) → (length h.left < length text) × (get_or text (length h.left) 0 ≡ 47)
 slash_of_block text base bits h =
     let occurs : OccursAt text (47 ∷ []) (length h.left) = rw h.spelled (between h.left (47 ∷ []) h.digits) in
     (omega (arith, occurs.fits), ap (λ i. get_or text i 0) (sym (add-zero (length h.left))) ∙ occurs.reads 0 (omega arith))
@@ -169,7 +199,7 @@ module _ (text : List ℕ) (no_range : FindsNeedle text dots 0 None) where
     slash : get_or text at 0 ≡ 47
     slash = eqb-true _ _ found.1
 
-    same_parts : (base : Addr) (bits : ℕ) (h : IsBlockText text base bits) → (take at text ≡ h.left) × (drop (at + 1) text ≡ h.digits)
+    same_parts : (base : Addr) (bits : ℕ) (h : BlockParts text base bits) → (take at text ≡ h.left) × (drop (at + 1) text ≡ h.digits)
     same_parts base bits h =
         let after = slash_of_block text base bits h in
         let clean = (IsClean-address h.left base h.is_one).0 in
@@ -188,22 +218,19 @@ module _ (text : List ℕ) (no_range : FindsNeedle text dots 0 None) where
           rw h.spelled (drop_at (h.left ++ 47 ∷ []) h.digits (at + 1) one),
         )
 
+    block_here : (base : Addr) (bits : ℕ) → IsAddrText (take at text) base → bits_of (drop (at + 1) text) ≡ Some bits → IsBlockText text base bits
+    block_here base bits is_one is_bits =
+        let cut : text ≡ take at text ++ 47 ∷ drop (at + 1) text = cut_one text at 47 found.0.high slash ∙ append_assoc (take at text) (47 ∷ []) (drop (at + 1) text) in
+        subst (λ (t : List ℕ). IsBlockText t base bits) (sym cut)
+        (block_joined (take at text) (drop (at + 1) text) base bits (no_slashes (take at text) (IsClean-address (take at text) base is_one).0) is_one is_bits)
+
     -- what is read on both sides of `/` is read of the text
     pub Reads-block : (r : Result Item Flaw) → ReadsBlock (take at text) (drop (at + 1) text) r → Reads text r
-    Reads-block (Ok one) (base, bits, is, is_one, is_prefix, within) =
-        rw is (record {
-          spelled = record {
-            left = take at text;
-            digits = drop (at + 1) text;
-            spelled = cut_one text at 47 found.0.high slash;
-            is_one = is_one;
-            is_prefix = is_prefix;
-          };
-          is_good = within;
-        })
+    Reads-block (Ok one) (base, bits, is, is_one, is_bits, within) =
+        rw is (record { spelled = block_here base bits is_one is_bits; is_good = within })
     Reads-block (Err flaw.Address) none = no_item
       where
-        no_item : IsNoItem text
+        no_item : IsNoItemText text
         no_item (item.One (lit.Text t)) h = h
         no_item (item.One (lit.Num n)) h = h
         no_item (item.One (lit.Bool b)) h = h
@@ -211,33 +238,24 @@ module _ (text : List ℕ) (no_range : FindsNeedle text dots 0 None) where
         no_item (item.Nums m n) h = h
         no_item (item.Addrs first last) h = dots_of_range text first last h no_range
         no_item (item.Block base bits) h =
-            let parts = same_parts base bits h in
-            none base bits (rw parts.0 h.is_one) (rw parts.1 h.is_prefix)
-    Reads-block (Err flaw.Prefix) (base, bits, is_one, is_prefix, over) = (
-      base,
-      bits,
-      record {
-        left = take at text;
-        digits = drop (at + 1) text;
-        spelled = cut_one text at 47 found.0.high slash;
-        is_one = is_one;
-        is_prefix = is_prefix;
-      },
-      over,
-    )
+            let block = parts_of_block text base bits h in
+            let parts = same_parts base bits block in
+            none base bits (rw parts.0 block.is_one) (rw parts.1 block.is_bits)
+    Reads-block (Err flaw.Prefix) (base, bits, is_one, is_bits, over) = (base, bits, block_here base bits is_one is_bits, over)
     Reads-block (Err flaw.Backward) h = absurd h
 
   -- a text without `..` and `/` that is no address is no item
-  pub IsNoItem-alone : IsFirstByte (is_byte 47) text None → ((a : Addr) → ¬ (IsAddrText text a)) → IsNoItem text
-  IsNoItem-alone no_slash none (item.One (lit.Text t)) h = h
-  IsNoItem-alone no_slash none (item.One (lit.Num n)) h = h
-  IsNoItem-alone no_slash none (item.One (lit.Bool b)) h = h
-  IsNoItem-alone no_slash none (item.One (lit.Addr a)) h = none a h
-  IsNoItem-alone no_slash none (item.Nums m n) h = h
-  IsNoItem-alone no_slash none (item.Addrs first last) h = dots_of_range text first last h no_range
-  IsNoItem-alone no_slash none (item.Block base bits) h =
-      let after = slash_of_block text base bits h in
-      no_slash (length h.left) (omega arith) after.0 (eq-eqb _ _ after.1)
+  pub IsNoItemText-alone : IsFirstByte (is_byte 47) text None → ((a : Addr) → ¬ (IsAddrText text a)) → IsNoItemText text
+  IsNoItemText-alone no_slash none (item.One (lit.Text t)) h = h
+  IsNoItemText-alone no_slash none (item.One (lit.Num n)) h = h
+  IsNoItemText-alone no_slash none (item.One (lit.Bool b)) h = h
+  IsNoItemText-alone no_slash none (item.One (lit.Addr a)) h = none a h
+  IsNoItemText-alone no_slash none (item.Nums m n) h = h
+  IsNoItemText-alone no_slash none (item.Addrs first last) h = dots_of_range text first last h no_range
+  IsNoItemText-alone no_slash none (item.Block base bits) h =
+      let block = parts_of_block text base bits h in
+      let after = slash_of_block text base bits block in
+      no_slash (length block.left) (omega arith) after.0 (eq-eqb _ _ after.1)
 
 -- two cuts of one text at one place
 same_cut : (text needle l r m s : List ℕ) → text ≡ l ++ needle ++ r → text ≡ m ++ needle ++ s → length l ≡ length m → (l ≡ m) × (r ≡ s)
@@ -273,12 +291,14 @@ range_unique text a b c d h k =
     )
 
 block_unique : (text : List ℕ) (a b : Addr) (m n : ℕ) → IsBlockText text a m → IsBlockText text b n → (a ≡ b) × (m ≡ n)
-block_unique text a b m n h k =
+block_unique text a b m n is_first is_second =
+    let h = parts_of_block text a m is_first in
+    let k = parts_of_block text b n is_second in
     let one = slash_least text h.left h.digits k.left k.digits h.spelled k.spelled (IsClean-address k.left b k.is_one).0 in
     let two = slash_least text k.left k.digits h.left h.digits k.spelled h.spelled (IsClean-address h.left a h.is_one).0 in
     let same = same_cut text (47 ∷ []) h.left h.digits k.left k.digits h.spelled k.spelled (omega arith) in (
       IsAddrText-unique k.left a b (subst (λ t. IsAddrText t a) same.0 h.is_one) k.is_one,
-      sym h.is_prefix.0.1 ∙ ap (digits_value 10) same.1 ∙ k.is_prefix.0.1,
+      (let both : Some m ≡ Some n = sym h.is_bits ∙ ap bits_of same.1 ∙ k.is_bits in cc),
     )
 
 no_dots_of_range : (text : List ℕ) (first last : Addr) → IsRangeText text first last → ¬ (HasDotsApart text)
@@ -294,7 +314,7 @@ address_is text a (item.One (lit.Bool b)) h k = absurd k
 address_is text a (item.One (lit.Addr b)) h k = ap (λ x. item.One (lit.Addr x)) (IsAddrText-unique text a b h k)
 address_is text a (item.Nums m n) h k = absurd k
 address_is text a (item.Addrs first last) h k = absurd (no_dots_of_range text first last k (IsClean-address text a h).1)
-address_is text a (item.Block base bits) h k = absurd (no_slash_at text (length k.left) (IsClean-address text a h).0 (slash_of_block text base bits k).1)
+address_is text a (item.Block base bits) h k = (let block = parts_of_block text base bits k in absurd (no_slash_at text (length block.left) (IsClean-address text a h).0 (slash_of_block text base bits block).1))
 
 range_is : (text : List ℕ) (a b : Addr) (one : Item) → IsRangeText text a b → IsItemText text one → item.Addrs a b ≡ one
 range_is text a b (item.One (lit.Text t)) h k = absurd k
@@ -311,7 +331,7 @@ block_is : (text : List ℕ) (a : Addr) (m : ℕ) (one : Item) → IsBlockText t
 block_is text a m (item.One (lit.Text t)) h k = absurd k
 block_is text a m (item.One (lit.Num n)) h k = absurd k
 block_is text a m (item.One (lit.Bool b)) h k = absurd k
-block_is text a m (item.One (lit.Addr b)) h k = absurd (no_slash_at text (length h.left) (IsClean-address text b k).0 (slash_of_block text a m h).1)
+block_is text a m (item.One (lit.Addr b)) h k = (let block = parts_of_block text a m h in absurd (no_slash_at text (length block.left) (IsClean-address text b k).0 (slash_of_block text a m block).1))
 block_is text a m (item.Nums x y) h k = absurd k
 block_is text a m (item.Addrs c d) h k = absurd (no_dots_of_range text c d k (dots_of_block text a m h))
 block_is text a m (item.Block b n) h k =
@@ -328,7 +348,7 @@ IsItemText-unique text (item.Addrs first last) b h k = range_is text first last 
 IsItemText-unique text (item.Block base bits) b h k = block_is text base bits b h k
 
 -- a text with a fault stands for no item that holds addresses
-pub IsRefused-no_item : (text : List ℕ) → IsNoItem text → IsRefused text
+pub IsRefused-no_item : (text : List ℕ) → IsNoItemText text → IsRefused text
 IsRefused-no_item text none one good = none one good.spelled
 
 pub IsRefused-long_prefix : (text : List ℕ) → IsLongPrefix text → IsRefused text

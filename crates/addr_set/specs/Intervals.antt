@@ -1,5 +1,5 @@
 -- Intervals of numbers.
-use Rattle.std.specs.Prelude.{ℕ, ◌+◌, ◌-◌, ◌*◌, ◌/◌, ◌^◌, ◌<◌, ◌≤◌, Bool, ◌&&◌, nat_le, List}
+use Rattle.std.specs.Prelude.{◌≡◌, ℕ, ◌+◌, ◌-◌, ◌*◌, ◌/◌, ◌^◌, ◌<◌, ◌≤◌, Bool, ◌&&◌, ◌||◌, nat_le, List}
 use Rattle.std.specs.List.{list_any, AllPairs}
 use Rattle.addr_set.specs.declared.intervals.Interval.{Interval}
 
@@ -10,6 +10,10 @@ is_in interval number = nat_le interval.first number && nat_le number interval.l
 -- whether it is one of some interval
 abbrev pub is_in_any : List Interval → ℕ → Bool
 is_in_any intervals number = list_any (λ interval. is_in interval number) intervals
+
+-- the intervals have the numbers that others had, and those of one more
+abbrev pub Adds : List Interval → List Interval → Interval → Type 0
+Adds before now next = (number : ℕ) → is_in_any now number ≡ (is_in_any before number || is_in next number)
 
 -- the first of the numbers that differ from a number in their last bits at most
 abbrev pub first_of_block : ℕ → ℕ → ℕ

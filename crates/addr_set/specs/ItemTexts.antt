@@ -1,22 +1,16 @@
 -- Which texts stand for which items of an address list.
-use Rattle.std.specs.Prelude.{◌≡◌, ◌≢◌, ℕ, ◌<◌, ◌≤◌, List, ◌++◌, length, slice_index, codes, Result, Ok, Err}
+use Rattle.std.specs.Prelude.{◌≡◌, ◌≢◌, ℕ, ◌<◌, List, ◌++◌, length, codes, Result, Ok, Err}
 use Rattle.std.specs.List.{AllWithin, AllZip, HoldsAt}
-use Rattle.std.specs.Net.Grammar.{IsNumber}
 use Rattle.edge_base.specs.declared.address.Addr.{Addr}
 use Rattle.edge_base.specs.declared.address.Addr.TheVariants as addr
 use Rattle.edge_base.specs.declared.expression.Lit.TheVariants as lit
 use Rattle.edge_base.specs.declared.expression.Item.{Item}
 use Rattle.edge_base.specs.declared.expression.Item.TheVariants as item
 use Rattle.edge_base.specs.Address.{IsAddrText}
+use Rattle.edge_base.specs.Token.{IsBlockText}
 use Rattle.addr_set.specs.declared.reading.ItemFault.{ItemFault}
 use Rattle.addr_set.specs.declared.reading.ItemFault.TheVariants as fault
 use Rattle.addr_set.specs.Sets.{width_of, IsAddrItem}
-use Rattle.edge_base.specs.Bytes.{digit_zero}
-
--- `0`, or one to three digits of which the first isn't `0`, and the number that they write
-abbrev pub IsPrefixText : List ℕ → ℕ → Type 0
-IsPrefixText digits bits =
-    IsNumber 10 digits bits × (length digits ≤ 3) × (slice_index digits 0 ≡ digit_zero → length digits ≡ 1)
 
 -- two addresses of one family
 abbrev pub IsOneFamily : Addr → Addr → Type 0
@@ -39,14 +33,6 @@ pub record IsRangeText (text : List ℕ) (first last : Addr) : Type 0 where
   pub is_last : IsAddrText right last
   pub one_family : IsOneFamily first last
 
--- an address, `/`, and how many first bits count
-pub record IsBlockText (text : List ℕ) (one : Addr) (bits : ℕ) : Type 0 where
-  pub left : List ℕ
-  pub digits : List ℕ
-  pub spelled : text ≡ left ++ codes "/" ++ digits
-  pub is_one : IsAddrText left one
-  pub is_prefix : IsPrefixText digits bits
-
 -- the text stands for the item, which may be a range that runs backward or a block with too many bits
 abbrev pub IsItemText : List ℕ → Item → Type 0
 IsItemText text (item.One (lit.Addr one)) = IsAddrText text one
@@ -68,8 +54,8 @@ abbrev pub IsRefused : List ℕ → Type 0
 IsRefused text = (one : Item) → ¬ (IsGoodText text one)
 
 -- the text stands for no item
-abbrev pub IsNoItem : List ℕ → Type 0
-IsNoItem text = (one : Item) → ¬ (IsItemText text one)
+abbrev pub IsNoItemText : List ℕ → Type 0
+IsNoItemText text = (one : Item) → ¬ (IsItemText text one)
 
 -- the text stands for a block with more bits than its address has
 abbrev pub IsLongPrefix : List ℕ → Type 0
@@ -85,10 +71,14 @@ pub record IsFirstFlaw (HasFlaw : List ℕ → Type 0) (texts : List (List ℕ))
   pub before : AllWithin (λ text. (one : Item) × IsGoodText text one) texts 0 at
   pub here : HoldsAt HasFlaw texts at
 
+-- an answer of this cause names the first text with the flaw
+abbrev pub NamesFirst : (ℕ → ItemFault) → (List ℕ → Type 0) → List (List ℕ) → Result (List Item) ItemFault → Type 0
+NamesFirst cause HasFlaw texts answer = (at : ℕ) → answer ≡ Err (cause at) → IsFirstFlaw HasFlaw texts at
+
 -- what an answer says of the texts: their items, or the first that stands for none that holds addresses, and why
 abbrev pub AreReadAs : List (List ℕ) → Result (List Item) ItemFault → Type 0
 AreReadAs texts (Ok items) = AllZip IsGoodText texts items
-AreReadAs texts (Err (fault.BadAddr at)) = IsFirstFlaw IsNoItem texts at
+AreReadAs texts (Err (fault.BadAddr at)) = IsFirstFlaw IsNoItemText texts at
 AreReadAs texts (Err (fault.BadPrefix at)) = IsFirstFlaw IsLongPrefix texts at
 AreReadAs texts (Err (fault.BackwardRange at)) = IsFirstFlaw IsBackward texts at
 AreReadAs texts (Err fault.Memory) = Unit {0}

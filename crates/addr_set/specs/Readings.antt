@@ -1,19 +1,20 @@
 -- Working vocabulary, which no public clause cites.
 -- What is read of one text of an address list.
-use Rattle.std.specs.Prelude.{◌≡◌, ℕ, ◌<◌, ◌≤◌, List, Result, Ok, Err}
+use Rattle.std.specs.Prelude.{◌≡◌, ℕ, ◌<◌, ◌≤◌, List, Some, Result, Ok, Err}
 use Rattle.edge_base.specs.declared.address.Addr.{Addr}
 use Rattle.edge_base.specs.declared.expression.Item.{Item}
 use Rattle.edge_base.specs.declared.expression.Item.TheVariants as item
 use Rattle.edge_base.specs.Address.{IsAddrText}
+use Rattle.edge_base.specs.Token.{bits_of}
 use Rattle.addr_set.specs.declared.reading.Flaw.{Flaw}
 use Rattle.addr_set.specs.declared.reading.Flaw.TheVariants as flaw
 use Rattle.addr_set.specs.Sets.{width_of, IsRange}
-use Rattle.addr_set.specs.ItemTexts.{IsPrefixText, IsOneFamily, IsBelow, IsGoodText, IsNoItem, IsLongPrefix, IsBackward}
+use Rattle.addr_set.specs.ItemTexts.{IsOneFamily, IsBelow, IsGoodText, IsNoItemText, IsLongPrefix, IsBackward}
 
 -- what is read of a text is its item, or why it has none that holds addresses
 abbrev pub Reads : List ℕ → Result Item Flaw → Type 0
 Reads text (Ok one) = IsGoodText text one
-Reads text (Err flaw.Address) = IsNoItem text
+Reads text (Err flaw.Address) = IsNoItemText text
 Reads text (Err flaw.Prefix) = IsLongPrefix text
 Reads text (Err flaw.Backward) = IsBackward text
 
@@ -33,7 +34,7 @@ ReadsRange left right (Err flaw.Backward) = (first last : Addr) × IsAddrText le
 
 -- the same of what stands on both sides of `/`
 abbrev pub ReadsBlock : List ℕ → List ℕ → Result Item Flaw → Type 0
-ReadsBlock left digits (Ok one) = (base : Addr) × (bits : ℕ) × (one ≡ item.Block base bits) × IsAddrText left base × IsPrefixText digits bits × (bits ≤ width_of base)
-ReadsBlock left digits (Err flaw.Address) = (base : Addr) (bits : ℕ) → IsAddrText left base → ¬ (IsPrefixText digits bits)
-ReadsBlock left digits (Err flaw.Prefix) = (base : Addr) × (bits : ℕ) × IsAddrText left base × IsPrefixText digits bits × (width_of base < bits)
+ReadsBlock left digits (Ok one) = (base : Addr) × (bits : ℕ) × (one ≡ item.Block base bits) × IsAddrText left base × (bits_of digits ≡ Some bits) × (bits ≤ width_of base)
+ReadsBlock left digits (Err flaw.Address) = (base : Addr) (bits : ℕ) → IsAddrText left base → ¬ (bits_of digits ≡ Some bits)
+ReadsBlock left digits (Err flaw.Prefix) = (base : Addr) × (bits : ℕ) × IsAddrText left base × (bits_of digits ≡ Some bits) × (width_of base < bits)
 ReadsBlock left digits (Err flaw.Backward) = ⊥

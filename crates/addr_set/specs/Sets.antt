@@ -1,12 +1,14 @@
 -- Which addresses the items of a list hold.
-use Rattle.std.specs.Prelude.{ℕ, ◌-◌, ◌/◌, ◌^◌, ◌≤◌, Bool, false, ◌&&◌, nat_le, ◌==◌, List}
+use Rattle.std.specs.Prelude.{◌≡◌, ℕ, ◌≤◌, Bool, false, List}
 use Rattle.std.specs.List.{list_any}
 use Rattle.edge_base.specs.declared.address.Addr.{Addr}
 use Rattle.edge_base.specs.declared.address.Addr.TheVariants as addr
 use Rattle.edge_base.specs.declared.expression.Lit.TheVariants as lit
 use Rattle.edge_base.specs.declared.expression.Item.{Item}
 use Rattle.edge_base.specs.declared.expression.Item.TheVariants as item
+use Rattle.edge_base.specs.Ranges.{is_from_to, shares_bits}
 use Rattle.addr_set.specs.declared.set.AddrSet.{AddrSet}
+use Rattle.addr_set.specs.declared.intervals.Interval.{Interval}
 use Rattle.addr_set.specs.Intervals.{is_in_any}
 
 -- how many bits an address of this family has
@@ -27,28 +29,20 @@ IsAddrItem (item.Addrs first last) = IsRange first last
 IsAddrItem (item.Block one bits) = bits ≤ width_of one
 IsAddrItem other = ⊥
 
--- whether an address is of the family of two others, and from the first to the last
-abbrev pub is_between : Addr → Addr → Addr → Bool
-is_between (addr.V4 first) (addr.V4 last) (addr.V4 number) = nat_le first number && nat_le number last
-is_between (addr.V6 first) (addr.V6 last) (addr.V6 number) = nat_le first number && nat_le number last
-is_between first last other = false
-
--- whether an address is of the family of another, and has the same first bits
-abbrev pub is_in_block : Addr → ℕ → Addr → Bool
-is_in_block (addr.V4 one) bits (addr.V4 number) = number / 2 ^ (32 - bits) == one / 2 ^ (32 - bits)
-is_in_block (addr.V6 one) bits (addr.V6 number) = number / 2 ^ (128 - bits) == one / 2 ^ (128 - bits)
-is_in_block one bits other = false
-
 -- whether an item holds an address
 abbrev pub holds : Item → Addr → Bool
-holds (item.One (lit.Addr one)) address = is_between one one address
-holds (item.Addrs first last) address = is_between first last address
-holds (item.Block one bits) address = is_in_block one bits address
+holds (item.One (lit.Addr one)) address = is_from_to one one address
+holds (item.Addrs first last) address = is_from_to first last address
+holds (item.Block one bits) address = shares_bits one bits address
 holds other address = false
 
 -- whether some item holds an address
 abbrev pub has_addr : List Item → Addr → Bool
 has_addr items address = list_any (λ one. holds one address) items
+
+-- the intervals have the numbers of the addresses of one family that some item holds
+abbrev pub HaveAddrs : List Interval → (ℕ → Addr) → List Item → Type 0
+HaveAddrs intervals family items = (number : ℕ) → is_in_any intervals number ≡ has_addr items (family number)
 
 -- the addresses of a set
 abbrev pub addresses_of : AddrSet → Addr → Bool

@@ -1,7 +1,7 @@
-ghost use Rattle.std.specs.Prelude.{◌≡◌, ℕ, ◌≤◌, ◌<◌, ◌||◌, length, OnOk, IfOk};
+ghost use Rattle.std.specs.Prelude.{◌≡◌, ◌≤◌, ◌<◌, length, OnOk, IfOk};
 ghost use Rattle.std.specs.List.{All, AllWithin};
 ghost use Rattle.std.specs.List.Sorted.{IsNonDecreasingBy};
-ghost use Rattle.addr_set.specs.Intervals.{is_in, is_in_any, block_of, AreApart};
+ghost use Rattle.addr_set.specs.Intervals.{is_in_any, Adds, block_of, AreApart};
 
 use edge_base::Memory;
 use std::alloc::Global;
@@ -40,7 +40,7 @@ fn add(merged: &mut Vec<Interval>, next: Interval) -> Result<(), Memory>
     requires begins { All (λ interval. interval.first ≤ next.first) merged.old.items }
     ensures apart { OnOk result (AreApart merged.new.items) }
     ensures begins { OnOk result (All (λ interval. interval.first ≤ next.first) merged.new.items) }
-    ensures same { OnOk result ((number : ℕ) → is_in_any merged.new.items number ≡ (is_in_any merged.old.items number || is_in next number)) }
+    ensures same { OnOk result (Adds merged.old.items merged.new.items next) }
 {
     let Some(last) = merged.pop() else {
         merged.push(next)?;

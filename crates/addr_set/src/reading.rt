@@ -1,8 +1,8 @@
-ghost use Rattle.std.specs.Prelude.{◌≡◌, ◌↔◌, ℕ, ◌^◌, ◌<◌, length, IfOk, Err, MatchOption};
+ghost use Rattle.std.specs.Prelude.{◌≡◌, ◌^◌, ◌<◌, length, IfOk};
 ghost use Rattle.std.specs.List.{All, AllZip};
-ghost use Rattle.edge_base.specs.declared.address.Addr.{Addr};
-ghost use Rattle.addr_set.specs.Sets.{IsAddrItem, IsRange};
-ghost use Rattle.addr_set.specs.ItemTexts.{IsPrefixText, IsOneFamily, IsBelow, IsGoodText, IsNoItem, IsLongPrefix, IsBackward, IsFirstFlaw, ItemIsUnique, ReadingsAreUnique};
+ghost use Rattle.edge_base.specs.Token.{bits_of};
+ghost use Rattle.addr_set.specs.Sets.{IsAddrItem};
+ghost use Rattle.addr_set.specs.ItemTexts.{IsGoodText, IsNoItemText, IsLongPrefix, IsBackward, NamesFirst, ItemIsUnique, ReadingsAreUnique};
 ghost use Rattle.addr_set.specs.Readings.{Reads, ReadsJoined, ReadsRange, ReadsBlock};
 
 use edge_base::{Addr, Item, ListedItems, Lit, Texts, parse_addr};
@@ -44,7 +44,7 @@ enum Flaw {
 
 /// The number that one to three digits write, without a leading zero.
 fn prefix_of(digits: &[u8]) -> Option<u16>
-    ensures { MatchOption result ((bits : ℕ) → ¬ (IsPrefixText digits.now bits)) (λ bits. IsPrefixText digits.now bits) }
+    ensures { result ≡ bits_of digits.now }
 {
     if digits.is_empty() || digits.len() > 3 || (digits.len() > 1 && digits[0] == b'0') {
         return None;
@@ -136,9 +136,9 @@ pub fn parse_items(alloc: Global, texts: &Texts) -> Result<ListedItems, ItemFaul
     requires { length texts.now < 2 ^ 32 }
     ensures ok { IfOk result (λ items. AllZip IsGoodText texts.now items) }
     ensures items { IfOk result (All IsAddrItem) }
-    ensures bad_addr { (at : ℕ) → result ≡ Err (ItemFault.BadAddr at) → IsFirstFlaw IsNoItem texts.now at }
-    ensures bad_prefix { (at : ℕ) → result ≡ Err (ItemFault.BadPrefix at) → IsFirstFlaw IsLongPrefix texts.now at }
-    ensures backward_range { (at : ℕ) → result ≡ Err (ItemFault.BackwardRange at) → IsFirstFlaw IsBackward texts.now at }
+    ensures bad_addr { NamesFirst ItemFault.BadAddr IsNoItemText texts.now result }
+    ensures bad_prefix { NamesFirst ItemFault.BadPrefix IsLongPrefix texts.now result }
+    ensures backward_range { NamesFirst ItemFault.BackwardRange IsBackward texts.now result }
 {
     let mut items = Items::new(alloc);
     for text in texts.as_slice() {

@@ -1,4 +1,4 @@
-ghost use Rattle.std.specs.Prelude.{◌≡◌, ℕ, IfOk};
+ghost use Rattle.std.specs.Prelude.{◌≡◌, IfOk};
 ghost use Rattle.std.specs.List.{All};
 
 use crate::intervals::{Interval, Intervals};
@@ -22,13 +22,12 @@ struct Families {
 
 impl Families {
     ghost use Rattle.edge_base.specs.declared.address.Addr.TheVariants as addr;
-    ghost use Rattle.addr_set.specs.Intervals.{is_in_any};
-    ghost use Rattle.addr_set.specs.Sets.{IsAddrItem, has_addr};
+    ghost use Rattle.addr_set.specs.Sets.{IsAddrItem, HaveAddrs};
 
     fn of(alloc: Global, items: &[Item]) -> Result<Families, Memory>
         requires { All IsAddrItem items.now }
-        ensures v4 { IfOk result (λ found. (number : ℕ) → is_in_any found.v4.items number ≡ has_addr items.now (addr.V4 number)) }
-        ensures v6 { IfOk result (λ found. (number : ℕ) → is_in_any found.v6.items number ≡ has_addr items.now (addr.V6 number)) }
+        ensures v4 { IfOk result (λ found. HaveAddrs found.v4.items addr.V4 items.now) }
+        ensures v6 { IfOk result (λ found. HaveAddrs found.v6.items addr.V6 items.now) }
     {
         let mut v4 = Vec::new(alloc);
         let mut v6 = Vec::new(alloc);

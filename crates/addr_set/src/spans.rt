@@ -1,6 +1,7 @@
 ghost use Rattle.std.specs.Prelude.{◌≡◌, ◌≤◌};
 ghost use Rattle.edge_base.specs.declared.address.Addr.{Addr};
-ghost use Rattle.addr_set.specs.Sets.{width_of, IsRange, IsAddrItem, is_between, is_in_block, holds};
+ghost use Rattle.addr_set.specs.Sets.{width_of, IsRange, IsAddrItem, holds};
+ghost use Rattle.edge_base.specs.Ranges.{is_from_to, shares_bits};
 ghost use Rattle.addr_set.specs.Spans.{is_in_span};
 
 use crate::intervals::Interval;
@@ -15,7 +16,7 @@ pub enum Span {
 
 fn range(first: Addr, last: Addr) -> Span
     requires { IsRange first last }
-    ensures { (address : Addr) → is_in_span result address ≡ is_between first last address }
+    ensures { (address : Addr) → is_in_span result address ≡ is_from_to first last address }
 {
     match (first, last) {
         (Addr::V4(first), Addr::V4(last)) => Span::V4(Interval {
@@ -29,7 +30,7 @@ fn range(first: Addr, last: Addr) -> Span
 
 fn block(one: Addr, bits: u16) -> Span
     requires { bits ≤ width_of one }
-    ensures { (address : Addr) → is_in_span result address ≡ is_in_block one bits address }
+    ensures { (address : Addr) → is_in_span result address ≡ shares_bits one bits address }
 {
     match one {
         Addr::V4(number) => Span::V4(Interval::block(u128::from(number), 32 - u32::from(bits))),

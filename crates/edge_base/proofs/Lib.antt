@@ -1,4 +1,5 @@
 pub mod AddressLemmas
+pub mod BlockLemmas
 pub mod EscapedLemmas
 pub mod FoundLemmas
 pub mod FrontLemmas

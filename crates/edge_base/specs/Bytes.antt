@@ -53,6 +53,10 @@ close_parenthesis = 41
 abbrev pub star : ℕ
 star = 42
 
+-- `+`
+abbrev pub plus : ℕ
+plus = 43
+
 -- `,`
 abbrev pub comma : ℕ
 comma = 44

@@ -4,7 +4,7 @@ use Rattle.std.specs.List.{list_all, between}
 use Rattle.edge_base.specs.declared.token.Token.{Token}
 use Rattle.edge_base.specs.declared.token.TokenKind.{TokenKind}
 use Rattle.edge_base.specs.declared.token.TokenKind.TheVariants as kind
-use Rattle.edge_base.specs.Token.{is_blank, is_word_byte, IsTokenOf}
+use Rattle.edge_base.specs.Token.{is_blank_byte, is_word_byte, IsTokenOf}
 
 -- the longest front of a text that is a token, of `size` bytes, and its kind
 pub record IsLongest (text : List ℕ) (size : ℕ) (token_kind : TokenKind) : Type 0 where
@@ -37,9 +37,9 @@ pub record IsTokenAt (text : List ℕ) (token : Token) : Type 0 where
 
 -- the text from one place to another holds these tokens in order, and only blanks between them
 abbrev pub IsCutBetween : List ℕ → ℕ → ℕ → List Token → Type 0
-IsCutBetween text start end [] = (start ≤ end) × IsTrue (list_all is_blank (between start end text))
+IsCutBetween text start end [] = (start ≤ end) × IsTrue (list_all is_blank_byte (between start end text))
 IsCutBetween text start end (token ∷ tokens) =
-    (start ≤ token.start) × IsTrue (list_all is_blank (between start token.start text))
+    (start ≤ token.start) × IsTrue (list_all is_blank_byte (between start token.start text))
     × IsTokenAt text token × IsCutBetween text token.end end tokens
 
 -- the tokens cut the whole text
@@ -51,7 +51,7 @@ pub record IsFirstFault (text : List ℕ) (at : ℕ) : Type 0 where
   pub before : List Token
   pub is_cut : IsCutBetween text 0 at before
   pub within : at < length text
-  pub no_blank : IsFalse (is_blank (slice_index text at))
+  pub no_blank : IsFalse (is_blank_byte (slice_index text at))
   pub no_token : (token : Token) → token.start ≡ at → ¬ (IsTokenAt text token)
 
 -- a text has at most one cut

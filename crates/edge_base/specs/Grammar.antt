@@ -27,16 +27,16 @@ pub data IsLiteral : Terminal → Lit → Type 0 where
   address_literal : {a : Addr} → IsLiteral (terminal.Address a) (lit.Addr a)
 
 -- item: a literal, a block, `number..number` or `address..address`
-pub data IsItem : List Terminal → Item → Type 0 where
-  literal_item : {t : Terminal} {l : Lit} → IsLiteral t l → IsItem (t ∷ []) (item.One l)
-  block_item : {a : Addr} {bits : ℕ} → IsItem (terminal.Block a bits ∷ []) (item.Block a bits)
-  numbers_item : {first last : ℤ} → IsItem (terminal.Number first ∷ terminal.To ∷ terminal.Number last ∷ []) (item.Nums first last)
-  addresses_item : {first last : Addr} → IsItem (terminal.Address first ∷ terminal.To ∷ terminal.Address last ∷ []) (item.Addrs first last)
+pub data IsListedItem : List Terminal → Item → Type 0 where
+  literal_item : {t : Terminal} {l : Lit} → IsLiteral t l → IsListedItem (t ∷ []) (item.One l)
+  block_item : {a : Addr} {bits : ℕ} → IsListedItem (terminal.Block a bits ∷ []) (item.Block a bits)
+  numbers_item : {first last : ℤ} → IsListedItem (terminal.Number first ∷ terminal.To ∷ terminal.Number last ∷ []) (item.Nums first last)
+  addresses_item : {first last : Addr} → IsListedItem (terminal.Address first ∷ terminal.To ∷ terminal.Address last ∷ []) (item.Addrs first last)
 
 -- items: one or more, one after the other
-pub data IsItems : List Terminal → List Item → Type 0 where
-  one_item : {ts : List Terminal} {i : Item} → IsItem ts i → IsItems ts (i ∷ [])
-  more_items : {ts rest : List Terminal} {i : Item} {is : List Item} → IsItem ts i → IsItems rest is → IsItems (ts ++ rest) (i ∷ is)
+pub data IsListedItems : List Terminal → List Item → Type 0 where
+  one_item : {ts : List Terminal} {i : Item} → IsListedItem ts i → IsListedItems ts (i ∷ [])
+  more_items : {ts rest : List Terminal} {i : Item} {is : List Item} → IsListedItem ts i → IsListedItems rest is → IsListedItems (ts ++ rest) (i ∷ is)
 
 -- test: an order and a literal; a test of texts and a text; `in` and a list's name; `in {` items `}`
 pub data IsTest : List Terminal → Test → Type 0 where
@@ -46,7 +46,7 @@ pub data IsTest : List Terminal → Test → Type 0 where
   wildcard : {text : List ℕ} → IsTest (terminal.Wildcard ∷ terminal.Text text ∷ []) (test.Wild text)
   strict_wildcard : {text : List ℕ} → IsTest (terminal.Strict ∷ terminal.Wildcard ∷ terminal.Text text ∷ []) (test.StrictWild text)
   in_list : {name : List ℕ} → IsTest (terminal.In ∷ terminal.ListName name ∷ []) (test.Listed name)
-  in_items : {ts : List Terminal} {is : List Item} → IsItems ts is → IsTest (terminal.In ∷ terminal.OpenItems ∷ ts ++ terminal.CloseItems ∷ []) (test.Among is)
+  in_items : {ts : List Terminal} {is : List Item} → IsListedItems ts is → IsTest (terminal.In ∷ terminal.OpenItems ∷ ts ++ terminal.CloseItems ∷ []) (test.Among is)
 
 mutual
   -- expression: a literal, or a chain

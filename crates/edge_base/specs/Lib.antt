@@ -4,6 +4,7 @@ pub mod Cut
 pub mod Grammar
 pub mod Nesting
 pub mod Printed
+pub mod Ranges
 pub mod Spellings
 pub mod Terminal
 pub mod Token

@@ -11,8 +11,8 @@ use Rattle.edge_base.specs.Spellings.{spellings_of, reserved_words, symbols}
 use Rattle.edge_base.specs.Bytes.{tab, newline, carriage_return, space, quote, number_sign, dollar, minus, dot, slash, digit_zero, digit_one, digit_nine, upper_a, upper_z, backslash, underscore, lower_a, lower_r, lower_z}
 
 -- space, tab, CR and LF
-abbrev pub is_blank : ℕ → Bool
-is_blank byte = byte == space || byte == tab || byte == carriage_return || byte == newline
+abbrev pub is_blank_byte : ℕ → Bool
+is_blank_byte byte = byte == space || byte == tab || byte == carriage_return || byte == newline
 
 abbrev pub is_digit : ℕ → Bool
 is_digit byte = nat_le digit_zero byte && nat_le byte digit_nine

@@ -1,5 +1,5 @@
 -- What each field of a request and of its reply is.
-use Rattle.std.specs.Prelude.{ℕ, pos, ◌/◌, ◌==◌, Bool, List, [], ◌++◌, Option, Some, map, find, codes, if◌then◌else◌}
+use Rattle.std.specs.Prelude.{◌≡◌, ℕ, pos, ◌/◌, ◌==◌, Bool, List, [], ◌++◌, Option, None, Some, IsTrue, map, find, codes, if◌then◌else◌}
 use Rattle.std.specs.Option.{option_map, option_map_or}
 use Rattle.std.specs.Map.{keys_of, values_of}
 use Rattle.std.specs.Str.{str_eq_ignore_ascii_case, str_to_ascii_lowercase}
@@ -12,6 +12,7 @@ use Rattle.edge_fields.specs.declared.value.Value.{Value}
 use Rattle.edge_fields.specs.declared.value.Value.TheVariants as value
 use Rattle.edge_fields.specs.Target.{uri_of, path_of, query_of, arguments_of}
 use Rattle.edge_fields.specs.Maps.{map_of}
+use Rattle.edge_fields.specs.Names.{is_response}
 
 -- whether a header has a name, ASCII case ignored
 abbrev pub has_name : List ℕ → Header → Bool
@@ -69,3 +70,7 @@ field_of request reply id.ArgValues = Some (texts (values_of (arguments_of (quer
 field_of request reply id.ResponseCode = option_map (λ (given : Reply). value.Num (pos given.status)) reply
 field_of request reply id.ResponseHeaders =
     option_map (λ (given : Reply). value.Map (map_of (pairs_of given.headers))) reply
+
+-- a field of a reply, where there is none
+abbrev pub LacksReply : Option Reply → FieldId → Type 0
+LacksReply reply id = IsTrue (is_response id) × (reply ≡ None)

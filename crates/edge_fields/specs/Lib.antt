@@ -5,3 +5,4 @@ pub mod Places
 pub mod Fields
 pub mod Kinds
 pub mod Schemes
+pub mod Values

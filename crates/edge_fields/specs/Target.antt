@@ -3,14 +3,15 @@ use Rattle.std.specs.Prelude.{ℕ, ◌==◌, Bool, ◌||◌, List, [], ◌∷◌
 use Rattle.std.specs.List.{position_or_len, before_first, after_first, slice_split}
 use Rattle.std.specs.Option.{option_or, option_map_or}
 use Rattle.std.specs.Str.{str_eq_ignore_ascii_case}
+use Rattle.edge_base.specs.Bytes.{ampersand, slash, equals, question}
 
 -- the byte `?`
 abbrev pub is_question : ℕ → Bool
-is_question byte = byte == 63
+is_question byte = byte == question
 
 -- `/` or `?`, at which an authority ends
 abbrev pub ends_authority : ℕ → Bool
-ends_authority byte = byte == 47 || byte == 63
+ends_authority byte = byte == slash || byte == question
 
 -- what follows the front of a text, where the text begins with that front, ASCII case ignored
 abbrev pub after_front : List ℕ → List ℕ → Option (List ℕ)
@@ -28,7 +29,7 @@ after_authority text = drop (position_or_len ends_authority text) text
 -- `/` where a text doesn't begin with it, else nothing
 abbrev pub root_of : List ℕ → List ℕ
 root_of [] = codes "/"
-root_of (byte ∷ text) = if byte == 47 then [] else codes "/"
+root_of (byte ∷ text) = if byte == slash then [] else codes "/"
 
 -- a text with `/` in front if it doesn't begin with one
 abbrev pub rooted : List ℕ → List ℕ
@@ -56,11 +57,11 @@ query_of target = after_first is_question (uri_of target)
 
 -- the byte `&`
 abbrev pub is_ampersand : ℕ → Bool
-is_ampersand byte = byte == 38
+is_ampersand byte = byte == ampersand
 
 -- the byte `=`
 abbrev pub is_equals : ℕ → Bool
-is_equals byte = byte == 61
+is_equals byte = byte == equals
 
 -- whether a text has a byte
 abbrev pub has_bytes : List ℕ → Bool

@@ -1,8 +1,8 @@
-ghost use Rattle.std.specs.Prelude.{◌≡◌, ◌/◌, ◌↔◌, pos, Some, None, IsTrue, IfOk, IfSome};
+ghost use Rattle.std.specs.Prelude.{◌≡◌, ◌/◌, ◌↔◌, pos, Some, None, IfOk, IfSome};
 ghost use Rattle.std.specs.Option.{option_copied};
 ghost use Rattle.edge_fields.specs.Target.{uri_of};
-ghost use Rattle.edge_fields.specs.Fields.{host_of, version_of, full_uri_of, field_of};
-ghost use Rattle.edge_fields.specs.Names.{field_kind, is_response};
+ghost use Rattle.edge_fields.specs.Fields.{host_of, version_of, full_uri_of, field_of, LacksReply};
+ghost use Rattle.edge_fields.specs.Names.{field_kind};
 ghost use Rattle.edge_fields.specs.Kinds.{HasKind};
 ghost use Rattle.edge_fields.specs.declared.value.Value.TheVariants as value;
 
@@ -121,8 +121,7 @@ pub fn field(
     id: FieldId,
 ) -> Result<Option<Value>, Memory>
     ensures value { IfOk result (λ found. found ≡ field_of request.now (option_copied reply.entry) id) }
-    ensures missing { IfOk result (λ found. (found ≡ None)
-        ↔ (IsTrue (is_response id) × (option_copied reply.entry ≡ None))) }
+    ensures missing { IfOk result (λ found. (found ≡ None) ↔ LacksReply (option_copied reply.entry) id) }
     ensures kind { IfOk result (λ found. IfSome found (HasKind (field_kind id))) }
 {
     computed(alloc, request, reply, id)

@@ -1,5 +1,7 @@
 ghost use Rattle.std.specs.Prelude.{◌≡◌, IfOk};
+ghost use Rattle.std.specs.Option.{option_copied};
 ghost use Rattle.edge_fields.specs.Maps.{map_of};
+ghost use Rattle.edge_fields.specs.Values.{text_in, number_in, addr_in, truth_in, items_in, entries_in};
 ghost use Rattle.edge_fields.specs.declared.value.Value.TheVariants as value;
 
 use crate::text_map::TextMap;
@@ -34,6 +36,66 @@ pub fn copy_values(alloc: Global, values: &[Value]) -> Result<Values, Memory>
 }
 
 impl Value {
+    /// The text that it is. Takes no memory.
+    pub fn as_text(&self) -> Option<&Text>
+        ensures { option_copied result ≡ text_in self.now }
+    {
+        match self {
+            Value::Text(text) => Some(text),
+            _ => None,
+        }
+    }
+
+    /// The number that it is. Takes no memory.
+    pub fn as_number(&self) -> Option<i64>
+        ensures { result ≡ number_in self.now }
+    {
+        match self {
+            Value::Num(number) => Some(*number),
+            _ => None,
+        }
+    }
+
+    /// The address that it is. Takes no memory.
+    pub fn as_addr(&self) -> Option<Addr>
+        ensures { result ≡ addr_in self.now }
+    {
+        match self {
+            Value::Addr(addr) => Some(*addr),
+            _ => None,
+        }
+    }
+
+    /// The truth value that it is. Takes no memory.
+    pub fn as_truth(&self) -> Option<bool>
+        ensures { result ≡ truth_in self.now }
+    {
+        match self {
+            Value::Bool(truth) => Some(*truth),
+            _ => None,
+        }
+    }
+
+    /// The elements of the array that it is. Takes no memory.
+    pub fn as_items(&self) -> Option<&[Value]>
+        ensures { option_copied result ≡ items_in self.now }
+    {
+        match self {
+            Value::Array(items) => Some(items.as_slice()),
+            _ => None,
+        }
+    }
+
+    /// The map that it is. Takes no memory.
+    pub fn as_map(&self) -> Option<&TextMap>
+        ensures { option_copied result ≡ entries_in self.now }
+    {
+        match self {
+            Value::Map(map) => Some(map),
+            _ => None,
+        }
+    }
+
     #[cycle(copying)]
     pub fn copy(&self, alloc: Global) -> Result<Value, Memory>
         ensures { IfOk result (λ value. value ≡ self.now) }

@@ -1,5 +1,5 @@
 -- A source and a sink in memory as contracts see them, and what each call makes of them.
-use Rattle.std.specs.Prelude.{ℕ, ◌-◌, List, ◌++◌, length, take, drop, min}
+use Rattle.std.specs.Prelude.{◌≡◌, ◌⊎◌, ℕ, ◌-◌, ◌<◌, List, [], ◌++◌, length, take, drop, min, Contains}
 use Rattle.edge_outside.specs.Faults.{next_count}
 
 -- a source over a text: what was taken and what is left of it, the most that a read moves, the numbers of the reads
@@ -22,6 +22,14 @@ pub record Store : Type 0 where
   pub calls : ℕ
   pub faults : ℕ
 
+-- a source of these bytes before its first read
+abbrev pub new_supply : List ℕ → ℕ → List ℕ → Supply
+new_supply bytes piece fail_at = record { taken = []; left = bytes; piece = piece; fail_at = fail_at; calls = 0; faults = 0 }
+
+-- a sink before its first write
+abbrev pub new_store : ℕ → ℕ → List ℕ → Store
+new_store room piece fail_at = record { got = []; room = room; piece = piece; fail_at = fail_at; calls = 0; faults = 0 }
+
 -- how many bytes a read into a piece of this length moves
 abbrev pub read_count : Supply → ℕ → ℕ
 read_count supply len = min len (min supply.piece (length supply.left))
@@ -33,6 +41,10 @@ after_read supply n = record supply { taken = supply.taken ++ take n supply.left
 -- after a read that failed
 abbrev pub after_failed_read : Supply → Supply
 after_failed_read supply = record supply { calls = next_count supply.calls; faults = next_count supply.faults }
+
+-- the next write of a piece of this length fails: its number is one that fails, or there is no room for any of it
+abbrev pub FailsToWrite : Store → ℕ → Type 0
+FailsToWrite store len = Contains store.fail_at store.calls ⊎ ((store.room ≡ 0) × (0 < len))
 
 -- how many bytes of a piece of this length a write takes
 abbrev pub write_count : Store → ℕ → ℕ

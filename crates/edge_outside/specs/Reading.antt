@@ -1,7 +1,10 @@
 -- What a line reader stands for, and what each of its steps says of the text before it.
 use Rattle.std.specs.Prelude.{◌≡◌, ℕ, ◌+◌, ◌-◌, ◌^◌, ◌<◌, ◌≤◌, Bool, true, false, List, [], ◌∷◌, ◌++◌, length, Option, Some, None}
-use Rattle.std.specs.Prelude.{option_to_list, if◌then◌else◌}
+use Rattle.std.specs.Prelude.{option_to_list, if◌then◌else◌, Result, IfOk}
+use Rattle.std.specs.Io.KnownBytes.{Appends, Consumes, IsAtEnd}
 use Rattle.edge_outside.specs.Lines.{lines_of, NoNewline}
+use Rattle.edge_outside.specs.Told.{Gave}
+use Rattle.edge_outside.specs.declared.failure.Failed.{Failed}
 use Rattle.edge_outside.specs.declared.line_reader.LineReader.{LineReader}
 use Rattle.edge_outside.specs.declared.line_reader.LineStep.{LineStep}
 use Rattle.edge_outside.specs.declared.line_reader.LineStep.TheVariants as step
@@ -41,11 +44,39 @@ StepOf step.End reader left text = (text ≡ []) × Stands reader left []
 StepOf step.Fault reader left text = Stands reader left text
 StepOf step.LongInput reader left text = Stands reader left text
 
+-- the step says what it must of each text that the reader stood before, while the source went from one rest to another
+abbrev pub StepsOn : LineReader → Option (List ℕ) → LineReader → Option (List ℕ) → LineStep → Type 0
+StepsOn before left now rest step = (text : List ℕ) → Stands before left text → StepOf step now rest text
+
+-- the same where the source isn't asked
+abbrev pub StepsInside : LineReader → LineReader → LineStep → Type 0
+StepsInside before now step = (left : Option (List ℕ)) → StepsOn before left now left step
+
+-- the same where the source is at its end
+abbrev pub StepsAtEnd : LineReader → LineReader → LineStep → Type 0
+StepsAtEnd before now step = (left : Option (List ℕ)) (text : List ℕ) → IsAtEnd left → Stands before left text → StepOf step now left text
+
+-- the reader stands before each text that it stood before
+abbrev pub StandsStill : LineReader → LineReader → Type 0
+StandsStill before now = (left : Option (List ℕ)) (text : List ℕ) → Stands before left text → Stands now left text
+
 -- the reader took these bytes, and gave and passed nothing
 pub record Took (before now : LineReader) (bytes : List ℕ) : Type 0 where
   pub is_ahead : ahead_of now ≡ ahead_of before ++ bytes
   pub is_long : now.long ≡ before.long
   pub is_taken : now.taken ≡ before.taken + length bytes
+
+-- the reader took what one read of its source gave, as many bytes as the answer counts
+abbrev pub TookFrom :
+    {S : Type 0} → (S → Option (List ℕ)) → (S → Option (List ℕ)) → S → S → LineReader → LineReader → Result ℕ Failed → Type 0
+TookFrom left taken source source' reader reader' result =
+    (bytes : List ℕ) × Took reader reader' bytes × Gave left taken source source' bytes × IfOk result (λ count. length bytes ≡ count)
+
+-- the reader counted what its source gave
+abbrev pub TakesOn : {S : Type 0} → (S → Option (List ℕ)) → (S → Option (List ℕ)) → S → S → LineReader → LineReader → Type 0
+TakesOn left taken source source' reader reader' =
+    (bytes : List ℕ) × Consumes (left source) (left source') bytes × Appends (taken source) (taken source') bytes
+    × (reader'.taken ≡ reader.taken + length bytes)
 
 -- all that was taken was looked at
 abbrev pub IsLooked : LineReader → Type 0

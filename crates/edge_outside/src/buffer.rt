@@ -1,8 +1,9 @@
 ghost use Rattle.std.specs.Prelude.{◌≡◌, ◌↔◌, [], ◌+◌, ◌-◌, ◌^◌, ◌<◌, ◌≤◌, IsTrue, MatchBool, length, take, slice_range, vec_len, IfOk, OnOk, OnErr};
-ghost use Rattle.std.specs.Io.KnownBytes.{Appends, Consumes, IsAtEnd, Keeps};
+ghost use Rattle.std.specs.Io.KnownBytes.{IsAtEnd, Keeps};
 ghost use Rattle.edge_outside.specs.Faults.{Rose};
 ghost use Rattle.edge_outside.specs.Held.{Held, Cut, Looked};
 ghost use Rattle.edge_outside.specs.Lines.{NoNewline};
+ghost use Rattle.edge_outside.specs.Told.{Gave};
 
 use crate::failure::Failed;
 use crate::source::Source;
@@ -65,10 +66,10 @@ fn read_behind<S: Source>(
     ensures front { take at bytes.new ≡ take at bytes.old }
     ensures bound { IfOk result (λ count. at + count ≤ length bytes.old) }
     ensures most { IfOk result (λ count. count ≤ most) }
-    ensures bytes { IfOk result (λ count. Consumes (S.left source.old) (S.left source.new) (slice_range bytes.new at (at + count))) }
-    ensures told { IfOk result (λ count. Appends (S.taken source.old) (S.taken source.new) (slice_range bytes.new at (at + count))) }
+    ensures gave { IfOk result (λ n. Gave S.left S.taken source.old source.new (slice_range bytes.new at (at + n))) }
     ensures end { IfOk result (λ count. count ≡ 0 → IsAtEnd (S.left source.new)) }
-    ensures err { OnErr result (Keeps (S.left source.old) (S.left source.new) × Keeps (S.taken source.old) (S.taken source.new)) }
+    ensures err { OnErr result (Keeps (S.left source.old) (S.left source.new)) }
+    ensures err_told { OnErr result (Keeps (S.taken source.old) (S.taken source.new)) }
     ensures kept { OnOk result (S.faults source.new ≡ S.faults source.old) }
     ensures failed { OnErr result (Rose (S.faults source.old) (S.faults source.new)) }
     ensures later { S.faults source.old ≤ S.faults source.new }
@@ -150,8 +151,7 @@ impl Buffer {
         requires room { length self.old.begun < 2 ^ 20 }
         requires some { 0 < most }
         ensures begun { self.new.begun ≡ self.old.begun }
-        ensures bytes { Consumes (S.left source.old) (S.left source.new) self.new.rest }
-        ensures told { Appends (S.taken source.old) (S.taken source.new) self.new.rest }
+        ensures gave { Gave S.left S.taken source.old source.new self.new.rest }
         ensures count { IfOk result (λ count. length self.new.rest ≡ count) }
         ensures most { length self.new.rest ≤ most }
         ensures end { IfOk result (λ count. count ≡ 0 → IsAtEnd (S.left source.new)) }

@@ -38,11 +38,12 @@ pub struct LineReader {
 }
 
 impl LineReader {
-    ghost use Rattle.std.specs.Prelude.{◌≡◌, ◌≢◌, ◌↔◌, ℕ, List, ◌+◌, ◌^◌, ◌<◌, ◌≤◌, ◌⊎◌, true, false, if◌then◌else◌, length, Option, Some, None, IfOk, OnOk, OnErr, IfSome, IfNone, OnSome};
-    ghost use Rattle.std.specs.Io.KnownBytes.{Appends, Consumes, IsAtEnd};
+    ghost use Rattle.std.specs.Prelude.{◌≡◌, ◌≢◌, ◌↔◌, ℕ, List, ◌^◌, ◌<◌, ◌≤◌, ◌⊎◌, false, if◌then◌else◌, length, Some};
+    ghost use Rattle.std.specs.Prelude.{IfOk, OnOk, OnErr, IfSome, IfNone, OnSome};
+    ghost use Rattle.std.specs.Io.KnownBytes.{IsAtEnd};
     ghost use Rattle.edge_outside.specs.Faults.{Rose};
     ghost use Rattle.edge_outside.specs.Lines.{NoNewline};
-    ghost use Rattle.edge_outside.specs.Reading.{line_of, ahead_of, Stands, StepOf, Took, IsLooked, weight};
+    ghost use Rattle.edge_outside.specs.Reading.{line_of, ahead_of, Stands, StepsOn, StepsInside, StepsAtEnd, StandsStill, TookFrom, TakesOn, IsLooked, weight};
 
     /// Takes a buffer of 1 MiB.
     pub fn new(alloc: Global) -> Result<LineReader, Memory>
@@ -81,10 +82,8 @@ impl LineReader {
 
     /// Gives the next line where it ends in what was taken. Where it doesn't, all that was taken was looked at.
     fn look(&mut self) -> Option<LineStep>
-        ensures found { IfSome result (λ step. (left : Option (List ℕ)) (text : List ℕ)
-            → Stands self.old left text → StepOf step self.new left text) }
-        ensures none { IfNone result ((left : Option (List ℕ)) (text : List ℕ)
-            → Stands self.old left text → Stands self.new left text) }
+        ensures found { IfSome result (StepsInside self.old self.new) }
+        ensures none { IfNone result (StandsStill self.old self.new) }
         ensures looked { IfNone result (IsLooked self.new) }
         ensures no_newline { IfNone result (NoNewline self.new.buffer.begun) }
         ensures variant { IfSome result (λ step. (step ≡ LineStep.Line) ⊎ (step ≡ LineStep.Long)) }
@@ -112,8 +111,7 @@ impl LineReader {
     /// Gives the last line, which lacks a newline, or answers the end.
     fn finish(&mut self) -> LineStep
         requires { IsLooked self.old }
-        ensures lines { (left : Option (List ℕ)) (text : List ℕ) → IsAtEnd left
-            → Stands self.old left text → StepOf result self.new left text }
+        ensures lines { StepsAtEnd self.old self.new result }
         ensures variant { (result ≢ LineStep.Fault) × (result ≢ LineStep.LongInput) }
         ensures taken { self.new.taken ≡ self.old.taken }
         ensures progress { (result ≡ LineStep.Line) ⊎ (result ≡ LineStep.Long) → weight self.new < weight self.old }
@@ -131,10 +129,7 @@ impl LineReader {
         requires looked { IsLooked self.old }
         requires full { 2 ^ 20 ≤ length self.old.buffer.begun }
         requires limit { self.old.taken < 2 ^ 40 }
-        ensures took { (bytes : List ℕ) × Took self.old self.new bytes
-            × Consumes (S.left source.old) (S.left source.new) bytes
-            × Appends (S.taken source.old) (S.taken source.new) bytes
-            × IfOk result (λ count. length bytes ≡ count) }
+        ensures took { TookFrom S.left S.taken source.old source.new self.old self.new result }
         ensures end { IfOk result (λ count. count ≡ 0 → IsAtEnd (S.left source.new) × IsLooked self.new) }
         ensures err { OnErr result (self.new.taken ≡ self.old.taken) }
         ensures kept { OnOk result (S.faults source.new ≡ S.faults source.old) }
@@ -154,10 +149,7 @@ impl LineReader {
     fn read_on<S: Source>(&mut self, source: &mut S) -> Result<usize, Failed>
         requires looked { IsLooked self.old }
         requires limit { self.old.taken < 2 ^ 40 }
-        ensures took { (bytes : List ℕ) × Took self.old self.new bytes
-            × Consumes (S.left source.old) (S.left source.new) bytes
-            × Appends (S.taken source.old) (S.taken source.new) bytes
-            × IfOk result (λ count. length bytes ≡ count) }
+        ensures took { TookFrom S.left S.taken source.old source.new self.old self.new result }
         ensures end { IfOk result (λ count. count ≡ 0 → IsAtEnd (S.left source.new) × IsLooked self.new) }
         ensures err { OnErr result (self.new.taken ≡ self.old.taken) }
         ensures kept { OnOk result (S.faults source.new ≡ S.faults source.old) }
@@ -175,16 +167,13 @@ impl LineReader {
 
     /// Reads on to the next line. Takes no memory.
     pub fn next<S: Source>(&mut self, source: &mut S) -> LineStep
-        ensures lines { (text : List ℕ) → Stands self.old (S.left source.old) text
-            → StepOf result self.new (S.left source.new) text }
+        ensures lines { StepsOn self.old (S.left source.old) self.new (S.left source.new) result }
         ensures kept { result ≢ LineStep.Fault → S.faults source.new ≡ S.faults source.old }
         ensures fault { result ≡ LineStep.Fault → Rose (S.faults source.old) (S.faults source.new) }
         ensures in_line { result ≡ LineStep.Fault → NoNewline (ahead_of self.new) }
         ensures later { S.faults source.old ≤ S.faults source.new }
         ensures long_input { (result ≡ LineStep.LongInput) ↔ (self.new.taken ≡ 2 ^ 40) }
-        ensures taken { (bytes : List ℕ) × Consumes (S.left source.old) (S.left source.new) bytes
-            × Appends (S.taken source.old) (S.taken source.new) bytes
-            × (self.new.taken ≡ self.old.taken + length bytes) }
+        ensures taken { TakesOn S.left S.taken source.old source.new self.old self.new }
         ensures progress { (result ≡ LineStep.Line) ⊎ (result ≡ LineStep.Long) → weight self.new < weight self.old }
     {
         'reading: loop {

@@ -1,7 +1,8 @@
-ghost use Rattle.std.specs.Prelude.{◌≡◌, ℕ, ◌<◌, ◌≤◌, length, take, IfOk, OnOk, OnErr};
+ghost use Rattle.std.specs.Prelude.{◌≡◌, ◌<◌, ◌≤◌, length, IfOk, OnOk, OnErr};
 ghost use Rattle.std.specs.Io.{WritesAtMost};
 ghost use Rattle.std.specs.Io.KnownBytes.{Appends, WriteAppends};
 ghost use Rattle.edge_outside.specs.Faults.{Rose};
+ghost use Rattle.edge_outside.specs.Told.{AppendsFront};
 
 use crate::failure::Failed;
 
@@ -28,8 +29,7 @@ pub trait Sink {
 /// Writes all of the bytes, or a front of them until a write fails.
 pub fn write_all<K: Sink>(sink: &mut K, bytes: &[u8]) -> Result<(), Failed>
     ensures ok { OnOk result (Appends (K.got sink.old) (K.got sink.new) bytes.now) }
-    ensures err { OnErr result ((count : ℕ) × (count < length bytes.now)
-        × Appends (K.got sink.old) (K.got sink.new) (take count bytes.now)) }
+    ensures err { OnErr result (AppendsFront (K.got sink.old) (K.got sink.new) bytes.now) }
     ensures kept { OnOk result (K.faults sink.new ≡ K.faults sink.old) }
     ensures failed { OnErr result (Rose (K.faults sink.old) (K.faults sink.new)) }
     ensures later { K.faults sink.old ≤ K.faults sink.new }

@@ -1,8 +1,8 @@
-ghost use Rattle.std.specs.Prelude.{◌≡◌, ◌↔◌, ◌⊎◌, [], ◌<◌, ◌≤◌, length, take, Some, Contains, IsErr, IfOk, OnOk, OnErr};
+ghost use Rattle.std.specs.Prelude.{◌≡◌, ◌↔◌, ◌<◌, ◌≤◌, length, take, Some, IsErr, IfOk, OnOk, OnErr};
 ghost use Rattle.std.specs.Io.{WritesAtMost};
 ghost use Rattle.std.specs.Io.KnownBytes.{WriteAppends};
 ghost use Rattle.edge_outside.specs.Faults.{Rose};
-ghost use Rattle.edge_outside.specs.InMemory.{write_count, after_write, after_failed_write};
+ghost use Rattle.edge_outside.specs.InMemory.{new_store, FailsToWrite, write_count, after_write, after_failed_write};
 
 use crate::failure::Failed;
 use crate::sink::Sink;
@@ -52,7 +52,7 @@ impl TextSink {
         fail_at: Numbers,
     ) -> Result<TextSink, Memory>
         requires { 1 ≤ piece }
-        ensures { IfOk result (λ sink. sink ≡ record { got = []; room = room; piece = piece; fail_at = fail_at; calls = 0; faults = 0 }) }
+        ensures { IfOk result (λ sink. sink ≡ new_store room piece fail_at) }
     {
         let bytes = Vec::with_capacity(alloc, room)?;
         Ok(TextSink {
@@ -87,7 +87,7 @@ impl Sink for TextSink {
         ensures kept { OnOk result (self.new.faults ≡ self.old.faults) }
         ensures failed { OnErr result (Rose self.old.faults self.new.faults) }
         ensures later { self.old.faults ≤ self.new.faults }
-        ensures fails { IsErr result ↔ (Contains self.old.fail_at self.old.calls ⊎ ((self.old.room ≡ 0) × (0 < length piece.now))) }
+        ensures fails { IsErr result ↔ FailsToWrite self.old (length piece.now) }
         ensures count { IfOk result (λ count. count ≡ write_count self.old (length piece.now)) }
         ensures ok { IfOk result (λ count. self.new ≡ after_write self.old (take count piece.now)) }
         ensures err { OnErr result (self.new ≡ after_failed_write self.old) }

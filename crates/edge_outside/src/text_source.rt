@@ -1,9 +1,9 @@
-ghost use Rattle.std.specs.Prelude.{◌≡◌, ◌↔◌, [], ◌≤◌, length, take, min, Some, Contains, IsErr, IfOk, OnOk, OnErr};
+ghost use Rattle.std.specs.Prelude.{◌≡◌, ◌↔◌, ◌≤◌, length, take, min, Some, Contains, IsErr, IfOk, OnOk, OnErr};
 ghost use Rattle.std.specs.Io.{ReadsAtMost};
 ghost use Rattle.std.specs.Io.KnownBytes.{ReadConsumes};
 ghost use Rattle.edge_outside.specs.Told.{ReadAdds};
 ghost use Rattle.edge_outside.specs.Faults.{Rose};
-ghost use Rattle.edge_outside.specs.InMemory.{read_count, after_read, after_failed_read};
+ghost use Rattle.edge_outside.specs.InMemory.{new_supply, read_count, after_read, after_failed_read};
 
 use crate::failure::Failed;
 use crate::source::Source;
@@ -58,7 +58,7 @@ impl TextSource {
     /// fail. Takes no memory.
     pub fn new(bytes: Text, piece: usize, fail_at: Numbers) -> TextSource
         requires { 1 ≤ piece }
-        ensures { result ≡ record { taken = []; left = bytes; piece = piece; fail_at = fail_at; calls = 0; faults = 0 } }
+        ensures { result ≡ new_supply bytes piece fail_at }
     {
         TextSource {
             bytes,

@@ -10,7 +10,7 @@ use Rattle.edge_base.specs.declared.token.TokenKind.{TokenKind}
 use Rattle.edge_base.specs.declared.token.TokenKind.TheVariants as kind
 use Rattle.edge_base.specs.Address.{IsAddrText}
 use Rattle.edge_base.specs.Spellings.{spellings_of, symbols}
-use Rattle.edge_base.specs.Token.{is_blank, is_digit, is_name_start, is_name_byte, is_name, size_of, number_of, quoted_text_of, raw_text_of, list_name_of, is_symbol, IsBlockText, IsTokenOf}
+use Rattle.edge_base.specs.Token.{is_blank_byte, is_digit, is_name_start, is_name_byte, is_name, size_of, number_of, quoted_text_of, raw_text_of, list_name_of, is_symbol, IsBlockText, IsTokenOf}
 use Rattle.expr_lexer.specs.declared.scanner.State.{State}
 use Rattle.expr_lexer.specs.Scan.{kind_from, with_next, first_of, is_address_byte}
 use Rattle.expr_lexer.specs.Fronts.{is_scanned, kind_of_name}
@@ -20,7 +20,7 @@ use Rattle.expr_lexer.proofs.KindLemmas.{Shape, scan_gives, size_digits}
 use Rattle.expr_lexer.proofs.TakenLemmas.{one_passes}
 use Rattle.expr_lexer.proofs.LongestLemmas.{shape_of, token_is_read}
 use Rattle.expr_lexer.proofs.AddressLemmas.{IsAddressFace, is_colon, address_face}
-use Rattle.expr_lexer.proofs.BlockLemmas.{is_slash, block_splits}
+use Rattle.edge_base.proofs.BlockLemmas.{is_slash, block_splits}
 
 -- a byte that addresses and blocks have, and no other token that begins as they may
 abbrev is_sign : ℕ → Bool
@@ -240,14 +240,14 @@ empty_is_no_token token_kind h = elim (cases_Bool (is_scanned token_kind)) [
   | inr there ↦ let bad : false ≡ true = (token_is_unscanned token_kind [] there h).first in absurd (cc)
 ]
 
-blank_begins_nothing : (byte : ℕ) → is_blank byte ≡ true → first_of byte ≡ None
+blank_begins_nothing : (byte : ℕ) → is_blank_byte byte ≡ true → first_of byte ≡ None
 blank_begins_nothing byte h = let P : ℕ → Type 0 = λ b. first_of b ≡ None in
     case_at P byte 10 _ h (λ h. case_at P byte 13 _ h (λ h. case_at P byte 9 _ h (λ h. subst P (sym (eqb-true byte 32 h)) refl) refl) refl) refl
 
-address_byte_is_no_blank : (byte : ℕ) → is_address_byte byte ≡ true → is_blank byte ≡ true → ⊥
+address_byte_is_no_blank : (byte : ℕ) → is_address_byte byte ≡ true → is_blank_byte byte ≡ true → ⊥
 address_byte_is_no_blank byte h blank = grind (arith, nat_tests)
 
-pub token_begins_with_no_blank : (token_kind : TokenKind) (byte : ℕ) (text : List ℕ) → IsTokenOf token_kind (byte ∷ text) → is_blank byte ≡ true → ⊥
+pub token_begins_with_no_blank : (token_kind : TokenKind) (byte : ℕ) (text : List ℕ) → IsTokenOf token_kind (byte ∷ text) → is_blank_byte byte ≡ true → ⊥
 token_begins_with_no_blank token_kind byte text h blank = elim (cases_Bool (is_scanned token_kind)) [
   | inl here ↦ let bad : None ≡ Some (shape_of token_kind)
       = ap (λ (read : Option State). with_next read None (λ next. kind_from next text)) (sym (blank_begins_nothing byte blank))

@@ -10,11 +10,13 @@ use Rattle.edge_base.specs.declared.token.TokenKind.{TokenKind}
 use Rattle.edge_base.specs.declared.token.TokenKind.TheVariants as kind
 use Rattle.edge_base.specs.Address.{IsAddrText}
 use Rattle.edge_base.specs.Token.{bits_of, IsBlockText, IsTokenOf}
+use Rattle.edge_base.proofs.BlockLemmas.{is_slash, behind_slash, block_joined, block_splits}
 use Rattle.expr_lexer.specs.declared.scanner.State.TheVariants as state
 use Rattle.expr_lexer.specs.declared.fronts.Front.{Front}
 use Rattle.expr_lexer.specs.Scan.{kind_from, is_address_byte, is_other_byte, stretch_of}
 use Rattle.expr_lexer.specs.Fronts.{is_block, is_address, HasNoneAmong, IsAtLeast}
-use Rattle.expr_lexer.proofs.StateLemmas.{kind_where, from_whole, not_zero, drop_past}
+use Rattle.expr_lexer.proofs.StateLemmas.{kind_where, from_whole, not_zero}
+use Rattle.expr_lexer.proofs.ByteLemmas.{all_by}
 use Rattle.expr_lexer.proofs.KindLemmas.{from_counting}
 use Rattle.expr_lexer.proofs.FrontLemmas.{HasNoneRead, IsLongestRead}
 use Rattle.expr_lexer.proofs.AddressLemmas.{IsAddressFace, address_face}
@@ -77,12 +79,6 @@ only_block kind.Symbol text among h = absurd (cc)
 
 -- ---- blocks
 
-abbrev pub is_slash : ℕ → Bool
-is_slash byte = byte == 47
-
-no_slash : (byte : ℕ) → is_address_byte byte ≡ true → is_slash byte ≡ false
-no_slash byte h = grind (arith, nat_tests)
-
 front_stretch : (front rest : List ℕ) (most : ℕ) → list_all is_address_byte front ≡ true → length front ≤ most
     → position_or_len is_other_byte (take most (front ++ 47 ∷ rest)) ≡ length front
 front_stretch [] rest zero h near = refl
@@ -92,35 +88,13 @@ front_stretch (byte ∷ front) rest (suc most) h near =
     let both : (is_address_byte byte ≡ true) × (list_all is_address_byte front ≡ true) = and_parts _ _ h in
     rw (passed byte both.0, front_stretch front rest most both.1 (omega arith)) (one-add (length front))
 
-slash_place : (front rest : List ℕ) → list_all is_address_byte front ≡ true → position_or_len is_slash (front ++ 47 ∷ rest) ≡ length front
-slash_place [] rest h = refl
-slash_place (byte ∷ front) rest h =
-    let both : (is_address_byte byte ≡ true) × (list_all is_address_byte front ≡ true) = and_parts _ _ h in
-    rw (no_slash byte both.0, slash_place front rest both.1) (one-add (length front))
-
-behind_slash : (front rest : List ℕ) → drop (length front + 1) (front ++ 47 ∷ rest) ≡ rest
-behind_slash front rest = sym (drop-drop 1 (length front) (front ++ 47 ∷ rest)) ∙ ap (drop 1) (drop_at front (47 ∷ rest) (length front) refl)
+address_byte_no_slash : (byte : ℕ) → is_address_byte byte ≡ true → not (is_slash byte) ≡ true
+address_byte_no_slash byte h = grind (arith, nat_tests)
 
 -- an address, `/` and bits are a block
 pub block_text : (front rest : List ℕ) (a : Addr) (bits : ℕ) → IsAddrText front a → bits_of rest ≡ Some bits → IsBlockText (front ++ 47 ∷ rest) a bits
 block_text front rest a bits h is =
-    let place : position_or_len is_slash (front ++ 47 ∷ rest) ≡ length front = slash_place front rest (address_face front a h).bytes in
-    (rw (place, take_at front (47 ∷ rest) (length front) refl) h, rw (place, behind_slash front rest) is)
-
-after_other : (byte : ℕ) (text : List ℕ) → is_slash byte ≡ false → after_first is_slash (byte ∷ text) ≡ after_first is_slash text
-after_other byte text other = rw other (drop_past (position_or_len is_slash text) byte text)
-
-before_other : (byte : ℕ) (text : List ℕ) → is_slash byte ≡ false → before_first is_slash (byte ∷ text) ≡ byte ∷ before_first is_slash text
-before_other byte text other = rw (other, one-add (position_or_len is_slash text)) refl
-
-pub block_splits : (text : List ℕ) (bits : ℕ) → bits_of (after_first is_slash text) ≡ Some bits → text ≡ before_first is_slash text ++ 47 ∷ after_first is_slash text
-block_splits [] bits h = absurd (cc)
-block_splits (byte ∷ text) bits h = elim (cases_Bool (is_slash byte)) [
-  | inl slash ↦ rw slash (ap (λ (b : ℕ). b ∷ text) (eqb-true byte 47 slash))
-  | inr other ↦ ap (λ (rest : List ℕ). byte ∷ rest) (block_splits text bits (ap bits_of (sym (after_other byte text other)) ∙ h))
-      ∙ ap (λ (rest : List ℕ). rest ++ 47 ∷ after_first is_slash text) (sym (before_other byte text other))
-      ∙ ap (λ (rest : List ℕ). before_first is_slash (byte ∷ text) ++ 47 ∷ rest) (sym (after_other byte text other))
-]
+    block_joined front rest a bits (all_by is_address_byte (λ byte. not (is_slash byte)) address_byte_no_slash front (address_face front a h).bytes) h is
 
 zero_bits : (text : List ℕ) → kind_where (length text == 0) kind.Number ≡ kind_where (is_some (bits_of (48 ∷ text))) kind.Number
 zero_bits [] = refl

@@ -6,7 +6,7 @@ use Rattle.std.proofs.lemmas.List.Folds.{list_all_at, list_all_more}
 use Rattle.std.specs.List.{list_all, between}
 use Rattle.edge_base.specs.declared.token.Token.{Token}
 use Rattle.edge_base.specs.declared.token.TokenKind.{TokenKind}
-use Rattle.edge_base.specs.Token.{is_blank, IsTokenOf}
+use Rattle.edge_base.specs.Token.{is_blank_byte, IsTokenOf}
 use Rattle.edge_base.specs.Cut.{IsLongest, IsTokenAt, IsCutBetween, IsCut, IsFirstFault, may_stand_before}
 use Rattle.expr_lexer.proofs.ApartLemmas.{kinds_apart, empty_is_no_token, token_begins_with_no_blank}
 
@@ -40,22 +40,22 @@ pub record IsStart (text : List ℕ) (at end : ℕ) : Type 0 where
   pub within : at < length text
   pub some : at < end
   pub fits : end ≤ length text
-  pub no_blank : is_blank (slice_index text at) ≡ false
+  pub no_blank : is_blank_byte (slice_index text at) ≡ false
 
 nonempty : (rest : List ℕ) (size : ℕ) (token_kind : TokenKind) → IsTokenOf token_kind (take size rest) → 0 < size
 nonempty rest zero token_kind h = absurd (empty_is_no_token token_kind h)
 nonempty rest (suc size) token_kind h = omega arith
 
-begins : (rest : List ℕ) (size : ℕ) (token_kind : TokenKind) → IsTokenOf token_kind (take size rest) → is_blank (slice_index rest 0) ≡ false
+begins : (rest : List ℕ) (size : ℕ) (token_kind : TokenKind) → IsTokenOf token_kind (take size rest) → is_blank_byte (slice_index rest 0) ≡ false
 begins rest zero token_kind h = absurd (empty_is_no_token token_kind h)
 begins [] (suc size) token_kind h = absurd (empty_is_no_token token_kind h)
-begins (byte ∷ rest) (suc size) token_kind h = false_from_ne_true (is_blank byte) (token_begins_with_no_blank token_kind byte (take size rest) h)
+begins (byte ∷ rest) (suc size) token_kind h = false_from_ne_true (is_blank_byte byte) (token_begins_with_no_blank token_kind byte (take size rest) h)
 
 pub token_starts : (text : List ℕ) (token : Token) → IsTokenAt text token → IsStart text token.start token.end
 token_starts text token h =
     let some : 0 < token.end - token.start = nonempty (drop token.start text) (token.end - token.start) token.kind h.is_longest.is_token in
     let within : token.end - token.start ≤ length text - token.start = omega (arith, h.is_longest.within, length-drop token.start text) in
-    let first : is_blank (slice_index (drop token.start text) 0) ≡ false = begins (drop token.start text) (token.end - token.start) token.kind h.is_longest.is_token in
+    let first : is_blank_byte (slice_index (drop token.start text) 0) ≡ false = begins (drop token.start text) (token.end - token.start) token.kind h.is_longest.is_token in
     record {
       within = omega (arith, h.in_order);
       some = omega arith;
@@ -68,18 +68,18 @@ token_starts text token h =
 length_inside : (text : List ℕ) (start end at : ℕ) → start ≤ at → at < end → at < length text → at - start < length (take (end - start) (drop start text))
 length_inside text start end at from to within = omega (arith, length-take (end - start) (drop start text), length-drop start text)
 
-blank_inside : (text : List ℕ) (start end at : ℕ) → IsTrue (list_all is_blank (between start end text)) → start ≤ at → at < end → at < length text
-    → is_blank (slice_index text at) ≡ true
-blank_inside text start end at h from to within = true_from_ne_false (is_blank (slice_index text at)) (λ other.
+blank_inside : (text : List ℕ) (start end at : ℕ) → IsTrue (list_all is_blank_byte (between start end text)) → start ≤ at → at < end → at < length text
+    → is_blank_byte (slice_index text at) ≡ true
+blank_inside text start end at h from to within = true_from_ne_false (is_blank_byte (slice_index text at)) (λ other.
     let same : get_or (take (end - start) (drop start text)) (at - start) 0 ≡ get_or text at 0
     = get_or-take (end - start) (drop start text) (at - start) 0 (omega arith) ∙ get_or-drop start text (at - start) 0 ∙ ap (λ (n : ℕ). get_or text n 0) (add-sub_of_le from) in
-    both_ways _ (list_all_at is_blank (take (end - start) (drop start text)) (at - start) 0 (omega (arith, length_inside text start end at from to within))
-    (ap is_blank same ∙ other)) h)
+    both_ways _ (list_all_at is_blank_byte (take (end - start) (drop start text)) (at - start) 0 (omega (arith, length_inside text start end at from to within))
+    (ap is_blank_byte same ∙ other)) h)
 
 -- ---- one cut
 
-same_start : (text : List ℕ) (start : ℕ) (one other : Token) → start ≤ one.start → IsTrue (list_all is_blank (between start one.start text))
-    → start ≤ other.start → IsTrue (list_all is_blank (between start other.start text)) → IsTokenAt text one → IsTokenAt text other → one.start ≡ other.start
+same_start : (text : List ℕ) (start : ℕ) (one other : Token) → start ≤ one.start → IsTrue (list_all is_blank_byte (between start one.start text))
+    → start ≤ other.start → IsTrue (list_all is_blank_byte (between start other.start text)) → IsTokenAt text one → IsTokenAt text other → one.start ≡ other.start
 same_start text start one other from blanks onward others h k = elim (cases_order one.start other.start) [
   | inl same ↦ same
   | inr apart ↦ elim apart [
@@ -88,7 +88,7 @@ same_start text start one other from blanks onward others h k = elim (cases_orde
   ]
 ]
 
-blanks_hold_no_token : (text : List ℕ) (start end : ℕ) (token : Token) → IsTrue (list_all is_blank (between start end text)) → start ≤ token.start → token.start < end
+blanks_hold_no_token : (text : List ℕ) (start end : ℕ) (token : Token) → IsTrue (list_all is_blank_byte (between start end text)) → start ≤ token.start → token.start < end
     → IsTokenAt text token → ⊥
 blanks_hold_no_token text start end token blanks from to h = let s = token_starts text token h in
     both_ways _ s.no_blank (blank_inside text start end token.start blanks from to s.within)
@@ -112,7 +112,7 @@ cut_goes_on text start end (token ∷ tokens) h =
 -- neither a blank nor a token stands at this place
 record IsFault (text : List ℕ) (at : ℕ) : Type 0 where
   within : at < length text
-  no_blank : is_blank (slice_index text at) ≡ false
+  no_blank : is_blank_byte (slice_index text at) ≡ false
   no_token : (token : Token) → token.start ≡ at → ¬ (IsTokenAt text token)
 
 -- no cut from the same place gets past a fault
@@ -151,20 +151,20 @@ fault_is_one text at other h k =
 
 -- ---- how a cut grows
 
-one_more_blank : (text : List ℕ) (start at : ℕ) → start ≤ at → at < length text → IsTrue (list_all is_blank (between start at text)) → is_blank (slice_index text at) ≡ true
-    → IsTrue (list_all is_blank (between start (at + 1) text))
+one_more_blank : (text : List ℕ) (start at : ℕ) → start ≤ at → at < length text → IsTrue (list_all is_blank_byte (between start at text)) → is_blank_byte (slice_index text at) ≡ true
+    → IsTrue (list_all is_blank_byte (between start (at + 1) text))
 one_more_blank text start at from within blanks blank =
     let same : get_or (drop start text) (at - start) 0 ≡ get_or text at 0 = get_or-drop start text (at - start) 0 ∙ ap (λ (n : ℕ). get_or text n 0) (add-sub_of_le from) in
     let sizes : at + 1 - start ≡ at - start + 1 = omega arith in
-    rw (sizes, list_all_more is_blank (drop start text) (at - start) 0 (omega (arith, length-drop start text)))
-    (and_from _ _ blanks (ap is_blank same ∙ blank))
+    rw (sizes, list_all_more is_blank_byte (drop start text) (at - start) 0 (omega (arith, length-drop start text)))
+    (and_from _ _ blanks (ap is_blank_byte same ∙ blank))
 
-pub cut_more_blank : (text : List ℕ) (start at : ℕ) (tokens : List Token) → IsCutBetween text start at tokens → at < length text → is_blank (slice_index text at) ≡ true
+pub cut_more_blank : (text : List ℕ) (start at : ℕ) (tokens : List Token) → IsCutBetween text start at tokens → at < length text → is_blank_byte (slice_index text at) ≡ true
     → IsCutBetween text start (at + 1) tokens
 cut_more_blank text start at [] h within blank = (omega (arith, h.0), one_more_blank text start at h.0 within h.1 blank)
 cut_more_blank text start at (token ∷ tokens) h within blank = (h.0, h.1, h.2, cut_more_blank text token.end at tokens h.3 within blank)
 
-no_blanks : (text : List ℕ) (at : ℕ) → IsTrue (list_all is_blank (between at at text))
+no_blanks : (text : List ℕ) (at : ℕ) → IsTrue (list_all is_blank_byte (between at at text))
 no_blanks text at = rw (let e : at - at ≡ 0 = omega arith in e) refl
 
 pub cut_more_token : (text : List ℕ) (start : ℕ) (tokens : List Token) (token : Token) → IsCutBetween text start token.start tokens → IsTokenAt text token

@@ -10,7 +10,7 @@ use Rattle.edge_base.specs.declared.token.TokenKind.{TokenKind}
 use Rattle.edge_base.specs.declared.token.TokenKind.TheVariants as kind
 use Rattle.edge_base.specs.Bytes.{slash}
 use Rattle.edge_base.specs.Address.{IsAddrText}
-use Rattle.edge_base.specs.Token.{is_blank, is_name, is_reserved, number_of, bits_of, quoted_text_of, raw_text_of, list_name_of, is_symbol, IsBlockText, IsTokenOf}
+use Rattle.edge_base.specs.Token.{is_blank_byte, is_name, is_reserved, number_of, bits_of, quoted_text_of, raw_text_of, list_name_of, is_symbol, IsBlockText, IsTokenOf}
 use Rattle.edge_base.specs.Cut.{IsLongest, IsTokenAt, IsCutBetween, IsCut, IsFirstFault, may_stand_before, UncutHaveFaults}
 use Rattle.edge_base.proofs.FoundLemmas.{Found, found-address}
 use Rattle.expr_lexer.proofs.ApartLemmas.{empty_is_no_token}
@@ -186,7 +186,7 @@ module _ (text : List ℕ) where
   From fuel at = (before : List Token) → length text ≤ at + fuel → at ≤ length text → IsCutBetween text 0 at before → CutOrFault text
 
   behind_token : (fuel at : ℕ) (before : List Token) → ((end : ℕ) → From fuel end) → length text ≤ at + suc fuel → at < length text
-      → IsCutBetween text 0 at before → is_blank (slice_index text at) ≡ false → TokenOrNone text at → CutOrFault text
+      → IsCutBetween text 0 at before → is_blank_byte (slice_index text at) ≡ false → TokenOrNone text at → CutOrFault text
   behind_token fuel at before go enough inside cut solid (inl (token, start, is)) =
       let starts = token_starts text token is in
       let further : at < token.end = subst (λ (n : ℕ). n < token.end) start starts.some in
@@ -198,7 +198,7 @@ module _ (text : List ℕ) where
   cut_on : (fuel at : ℕ) → From fuel at
   cut_on zero at before enough within cut = whole at before within (omega arith) cut
   cut_on (suc fuel) at before enough within cut = elim (cases_lt at (length text)) [
-    | inl inside ↦ elim (cases_Bool (is_blank (slice_index text at))) [
+    | inl inside ↦ elim (cases_Bool (is_blank_byte (slice_index text at))) [
       | inl blank ↦ cut_on fuel (at + 1) before (omega arith) (omega arith) (cut_more_blank text 0 at before cut inside blank)
       | inr solid ↦ behind_token fuel at before (λ end. cut_on fuel end) enough inside cut solid (token_or_none_at text at)
     ]

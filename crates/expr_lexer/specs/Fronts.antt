@@ -1,7 +1,10 @@
+-- Working vocabulary, which no public clause cites.
 -- The longest token at the front of a text, among some kinds.
-use Rattle.std.specs.Prelude.{◌≡◌, ℕ, ◌+◌, ◌≤◌, Bool, true, false, cond, nat_lt, List, [], ◌∷◌, length, take, Option, Some, None, MatchOption}
+use Rattle.std.specs.Prelude.{◌≡◌, ℕ, ◌+◌, ◌<◌, ◌≤◌, Bool, true, false, cond, nat_lt, List, [], ◌∷◌, length, take, Option, Some, None, MatchOption}
+use Rattle.edge_base.specs.declared.token.Token.{Token}
 use Rattle.edge_base.specs.declared.token.TokenKind.{TokenKind}
 use Rattle.edge_base.specs.declared.token.TokenKind.TheVariants as kind
+use Rattle.edge_base.specs.Cut.{IsTokenAt}
 use Rattle.edge_base.specs.Token.{is_reserved, IsTokenOf}
 use Rattle.expr_lexer.specs.declared.scanner.State.{State}
 use Rattle.expr_lexer.specs.declared.fronts.Front.{Front}
@@ -58,3 +61,9 @@ pub record IsAtLeast (among : TokenKind → Bool) (text : List ℕ) (front : Fro
 -- the longest token of these kinds, where there is one
 abbrev pub IsLongestAmong : (TokenKind → Bool) → List ℕ → Option Front → Type 0
 IsLongestAmong among text found = MatchOption found (HasNoneAmong among text) (IsAtLeast among text)
+
+-- the token that stands at a place of the text, where one does
+abbrev pub IsFoundAt : List ℕ → ℕ → Option Token → Type 0
+IsFoundAt text at found =
+    MatchOption found ((token : Token) → token.start ≡ at → ¬ (IsTokenAt text token))
+    (λ token. (token.start ≡ at) × (at < token.end) × (token.end ≤ length text) × IsTokenAt text token)

@@ -1,3 +1,4 @@
+-- Working vocabulary, which no public clause cites.
 -- The longest token other than an address or a block, read byte by byte.
 use Rattle.std.specs.Prelude.{ℕ, ◌+◌, ◌-◌, ◌*◌, ◌^◌, Bool, cond, not, ◌&&◌, ◌||◌, nat_lt, nat_le, ◌==◌, List, [], ◌∷◌, take, Option, Some, None}
 use Rattle.std.specs.List.{position_or_len}

@@ -1,9 +1,9 @@
 ghost use Rattle.std.specs.Prelude.{◌≡◌, bytes_eq};
-ghost use Rattle.edge_base.specs.Token.{is_blank, is_digit, is_name_start, is_name_byte, is_word_byte, is_reserved};
+ghost use Rattle.edge_base.specs.Token.{is_blank_byte, is_digit, is_name_start, is_name_byte, is_word_byte, is_reserved};
 ghost use Rattle.expr_lexer.specs.Scan.{is_address_byte};
 
-pub fn is_blank(byte: u8) -> bool
-    ensures { result ≡ is_blank byte }
+pub fn is_blank_byte(byte: u8) -> bool
+    ensures { result ≡ is_blank_byte byte }
 {
     byte == b' ' || byte == b'\t' || byte == b'\r' || byte == b'\n'
 }

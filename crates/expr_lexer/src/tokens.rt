@@ -1,10 +1,10 @@
-ghost use Rattle.std.specs.Prelude.{◌≡◌, ◌<◌, ◌≤◌, length, IfOk, IfErr, MatchOption};
+ghost use Rattle.std.specs.Prelude.{◌<◌, ◌≤◌, length, IfOk, IfErr};
 ghost use Rattle.std.specs.List.{All};
-ghost use Rattle.edge_base.specs.Cut.{IsCut, IsTokenAt, CutsAreUnique, FaultsAreUnique, UncutHaveFaults};
-ghost use Rattle.edge_base.specs.declared.token.Token.{Token};
-ghost use Rattle.expr_lexer.specs.Lexed.{IsLexFault};
+ghost use Rattle.edge_base.specs.Cut.{IsCut, CutsAreUnique, FaultsAreUnique, UncutHaveFaults};
+ghost use Rattle.expr_lexer.specs.Fronts.{IsFoundAt};
+ghost use Rattle.expr_lexer.specs.Lexed.{IsInside, IsLexFault};
 
-use crate::bytes::is_blank;
+use crate::bytes::is_blank_byte;
 use crate::fronts::{longest_token, may_stand_before};
 use edge_base::{Token, Tokens};
 use std::alloc::{AllocError, Global};
@@ -32,13 +32,13 @@ impl From<AllocError> for LexFault {
 pub fn lex(alloc: Global, text: &[u8]) -> Result<Tokens, LexFault>
     requires { length text.now ≤ 4096 }
     ensures ok { IfOk result (λ tokens. IsCut text.now tokens) }
-    ensures within { IfOk result (λ tokens. All (λ token. (token.start < token.end) × (token.end ≤ length text.now)) tokens) }
+    ensures within { IfOk result (λ tokens. All (IsInside text.now) tokens) }
     ensures fault { IfErr result (λ fault. IsLexFault text.now fault) }
 {
     let mut tokens = Tokens::new(alloc);
     let mut at = 0;
     while at < text.len() {
-        if is_blank(text[at]) {
+        if is_blank_byte(text[at]) {
             at += 1;
         } else {
             let Some(token) = token_at(text, at) else {
@@ -55,7 +55,7 @@ pub fn lex(alloc: Global, text: &[u8]) -> Result<Tokens, LexFault>
 fn token_at(text: &[u8], at: usize) -> Option<Token>
     requires short { length text.now ≤ 4096 }
     requires within { at < length text.now }
-    ensures { MatchOption result ((token : Token) → token.start ≡ at → ¬ (IsTokenAt text.now token)) (λ token. (token.start ≡ at) × (at < token.end) × (token.end ≤ length text.now) × IsTokenAt text.now token) }
+    ensures { IsFoundAt text.now at result }
 {
     let rest = &text[at..];
     let Some(front) = longest_token(rest) else {

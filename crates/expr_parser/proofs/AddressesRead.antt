@@ -12,7 +12,8 @@ use Rattle.edge_base.specs.declared.address.Addr.TheVariants as addr
 use Rattle.edge_base.specs.Address.{number_in_base, IsAddrText, addr_text}
 use Rattle.edge_base.proofs.AddressLemmas.{length-groups, IsAddrText-printed_v4, IsAddrText-printed_v6}
 use Rattle.edge_base.specs.Token.{IsBlockText}
-use Rattle.expr_lexer.proofs.BlockLemmas.{is_slash, block_text}
+use Rattle.edge_base.proofs.BlockLemmas.{is_slash}
+use Rattle.expr_lexer.proofs.BlockLemmas.{block_text}
 use Rattle.expr_parser.proofs.NumbersRead.{bits_are_read}
 
 -- ---- the ranges of addresses

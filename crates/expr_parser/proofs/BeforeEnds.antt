@@ -6,7 +6,7 @@ use Rattle.std.proofs.lemmas.List.Folds.{list_all-append}
 use Rattle.std.specs.List.{list_all}
 use Rattle.edge_base.specs.declared.terminal.Terminal.{Terminal}
 use Rattle.edge_base.specs.declared.token.TokenKind.{TokenKind}
-use Rattle.edge_base.specs.Token.{is_blank, is_digit, is_name_start, is_name_byte, is_word_byte, IsTokenOf}
+use Rattle.edge_base.specs.Token.{is_blank_byte, is_digit, is_name_start, is_name_byte, is_word_byte, IsTokenOf}
 use Rattle.edge_base.specs.Cut.{IsLongest, stands_apart, may_stand_before}
 use Rattle.edge_base.specs.Terminal.{IsTerminalOf}
 use Rattle.expr_lexer.specs.declared.scanner.State.{State}
@@ -19,7 +19,7 @@ use Rattle.expr_parser.proofs.BlockBytes.{is_block_byte, is_first_byte, unscanne
 use Rattle.expr_parser.proofs.LongestWhere.{EndsThere, longest_where, read_no_further}
 use Rattle.expr_parser.proofs.Written.{is_end_byte, ends_before, StandsFor}
 
-blank_cases : (P : ℕ → Type 0) (byte : ℕ) → is_blank byte ≡ true → P 32 → P 9 → P 13 → P 10 → P byte
+blank_cases : (P : ℕ → Type 0) (byte : ℕ) → is_blank_byte byte ≡ true → P 32 → P 9 → P 13 → P 10 → P byte
 blank_cases P byte h p32 p9 p13 p10 =
     case_at P byte 10 _ h (λ h. case_at P byte 13 _ h (λ h. case_at P byte 9 _ h (λ h. subst P (sym (eqb-true byte 32 h)) p32) p9) p13) p10
 

@@ -15,7 +15,7 @@ use Rattle.expr_lexer.proofs.StateLemmas.{is_dot}
 use Rattle.expr_lexer.proofs.KindLemmas.{size_digits}
 use Rattle.expr_lexer.proofs.ApartLemmas.{unscanned_cases}
 use Rattle.expr_lexer.proofs.AddressLemmas.{address_face}
-use Rattle.expr_lexer.proofs.BlockLemmas.{is_slash, block_splits}
+use Rattle.edge_base.proofs.BlockLemmas.{is_slash, block_splits}
 use Rattle.expr_parser.proofs.Dots.{is_spaced, is_no_dot, address_spaced}
 
 -- a byte that an address or a block can hold

@@ -7,7 +7,7 @@ use Rattle.std.specs.List.{list_all, between}
 use Rattle.edge_base.specs.declared.terminal.Terminal.{Terminal}
 use Rattle.edge_base.specs.declared.token.Token.{Token}
 use Rattle.edge_base.specs.declared.token.TokenKind.{TokenKind}
-use Rattle.edge_base.specs.Token.{is_blank, words_of}
+use Rattle.edge_base.specs.Token.{is_blank_byte, words_of}
 use Rattle.edge_base.specs.Cut.{IsLongest, IsTokenAt, IsCutBetween, IsCut, may_stand_before}
 use Rattle.edge_base.specs.Terminal.{IsTerminalOf, AreTerminals}
 use Rattle.expr_parser.proofs.Written.{StandsFor, IsCutInto, cut_end, cut_blank, cut_token}
@@ -23,12 +23,12 @@ between_behind : (before text : List ℕ) (start end size : ℕ) → start ≡ l
 between_behind before text start end size h k =
     ap (λ n. take n (drop start (before ++ text))) k ∙ ap (λ n. take size (drop n (before ++ text))) h ∙ ap (λ v. take size v) (drop-append_seam before text)
 
-none_between : (text : List ℕ) (start : ℕ) → list_all is_blank (between start start text) ≡ true
-none_between text start = (let nothing : start - start ≡ 0 = omega arith in ap (λ n. list_all is_blank (take n (drop start text))) nothing)
+none_between : (text : List ℕ) (start : ℕ) → list_all is_blank_byte (between start start text) ≡ true
+none_between text start = (let nothing : start - start ≡ 0 = omega arith in ap (λ n. list_all is_blank_byte (take n (drop start text))) nothing)
 
 -- a blank before a run of blanks
-blank_before : (before rest : List ℕ) (byte start end : ℕ) → is_blank byte ≡ true → start ≡ length before → start + 1 ≤ end
-    → list_all is_blank (between (start + 1) end (before ++ byte ∷ rest)) ≡ true → list_all is_blank (between start end (before ++ byte ∷ rest)) ≡ true
+blank_before : (before rest : List ℕ) (byte start end : ℕ) → is_blank_byte byte ≡ true → start ≡ length before → start + 1 ≤ end
+    → list_all is_blank_byte (between (start + 1) end (before ++ byte ∷ rest)) ≡ true → list_all is_blank_byte (between start end (before ++ byte ∷ rest)) ≡ true
 blank_before before rest byte start end blank h less all =
     let more : before ++ byte ∷ rest ≡ (before ++ byte ∷ []) ++ rest = sym (append_assoc before (byte ∷ []) rest) in
     let behind : start + 1 ≡ length (before ++ byte ∷ []) = simp length-append (omega (arith, h)) in
@@ -36,9 +36,9 @@ blank_before before rest byte start end blank h less all =
     ap (λ v. between (start + 1) end v) more ∙ between_behind (before ++ byte ∷ []) rest (start + 1) end (end - (start + 1)) behind refl in
     let here : between start end (before ++ byte ∷ rest) ≡ take (suc (end - (start + 1))) (byte ∷ rest)
     = between_behind before (byte ∷ rest) start end (suc (end - (start + 1))) h (omega arith) in
-    ap (λ v. list_all is_blank v) here ∙ and_from _ _ blank (sym (ap (λ v. list_all is_blank v) later) ∙ all)
+    ap (λ v. list_all is_blank_byte v) here ∙ and_from _ _ blank (sym (ap (λ v. list_all is_blank_byte v) later) ∙ all)
 
-cut_behind_blank : (before rest : List ℕ) (byte start end : ℕ) (tokens : List Token) → is_blank byte ≡ true → start ≡ length before
+cut_behind_blank : (before rest : List ℕ) (byte start end : ℕ) (tokens : List Token) → is_blank_byte byte ≡ true → start ≡ length before
     → IsCutBetween (before ++ byte ∷ rest) (start + 1) end tokens → IsCutBetween (before ++ byte ∷ rest) start end tokens
 cut_behind_blank before rest byte start end [] blank h cut = (omega (arith, cut.0), blank_before before rest byte start end blank h cut.0 cut.1)
 cut_behind_blank before rest byte start end (token ∷ tokens) blank h cut =
@@ -85,7 +85,7 @@ cut_behind before [] [] cut_end = record {
   tokens = [];
   is_cut = (
     simp length-append (omega arith),
-    ap (λ v. list_all is_blank (take (length v - length before) (drop (length before) v))) (append-nil before)
+    ap (λ v. list_all is_blank_byte (take (length v - length before) (drop (length before) v))) (append-nil before)
         ∙ none_between before (length before),
   );
   are_terminals = tt;

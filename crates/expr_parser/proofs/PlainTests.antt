@@ -5,7 +5,7 @@ use Rattle.edge_base.specs.declared.expression.Item.{Item}
 use Rattle.edge_base.specs.declared.expression.Test.{Test}
 use Rattle.edge_base.specs.declared.terminal.Terminal.{Terminal}
 use Rattle.edge_base.specs.declared.terminal.Terminal.TheVariants as terminal
-use Rattle.edge_base.specs.Grammar.{IsLiteral, text_literal, number_literal, address_literal, IsItem, literal_item, block_item, numbers_item, addresses_item, IsItems, one_item, more_items, IsTest, in_order, contains, matches, wildcard, strict_wildcard, in_list, in_items}
+use Rattle.edge_base.specs.Grammar.{IsLiteral, text_literal, number_literal, address_literal, IsListedItem, literal_item, block_item, numbers_item, addresses_item, IsListedItems, one_item, more_items, IsTest, in_order, contains, matches, wildcard, strict_wildcard, in_list, in_items}
 use Rattle.edge_base.specs.Nesting.{open_now, deepest}
 use Rattle.expr_parser.proofs.TreeTerminals.{lit_terminal, item_terminals, items_terminals, test_terminals}
 use Rattle.expr_parser.proofs.Rises.{Rises, append_rises}
@@ -15,13 +15,13 @@ literal_prints text_literal = refl
 literal_prints number_literal = refl
 literal_prints address_literal = refl
 
-item_prints : {ts : List Terminal} {i : Item} → IsItem ts i → item_terminals i ≡ ts
+item_prints : {ts : List Terminal} {i : Item} → IsListedItem ts i → item_terminals i ≡ ts
 item_prints (literal_item q) = ap (λ t. t ∷ []) (literal_prints q)
 item_prints block_item = refl
 item_prints numbers_item = refl
 item_prints addresses_item = refl
 
-items_print : {ts : List Terminal} {is : List Item} → IsItems ts is → items_terminals is ≡ ts
+items_print : {ts : List Terminal} {is : List Item} → IsListedItems ts is → items_terminals is ≡ ts
 items_print (one_item q) = append-nil _ ∙ item_prints q
 items_print (more_items q qs) = let first = item_prints q in let others = items_print qs in cc
 
@@ -76,13 +76,13 @@ literal_plain address_literal = tt
 pub literal_rises : {t : Terminal} {l : Lit} → IsLiteral t l → Rises (t ∷ []) 0
 literal_rises q = plain_one (literal_plain q)
 
-item_rises : {ts : List Terminal} {i : Item} → IsItem ts i → Rises ts 0
+item_rises : {ts : List Terminal} {i : Item} → IsListedItem ts i → Rises ts 0
 item_rises (literal_item q) = literal_rises q
 item_rises block_item = plain_one tt
 item_rises numbers_item = plain_three tt tt tt
 item_rises addresses_item = plain_three tt tt tt
 
-items_rise : {ts : List Terminal} {is : List Item} → IsItems ts is → Rises ts 0
+items_rise : {ts : List Terminal} {is : List Item} → IsListedItems ts is → Rises ts 0
 items_rise (one_item q) = item_rises q
 items_rise (more_items q qs) = append_rises (item_rises q) (items_rise qs)
 

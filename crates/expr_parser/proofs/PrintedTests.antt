@@ -15,7 +15,7 @@ use Rattle.edge_base.specs.declared.token.TokenKind.TheVariants as kind
 use Rattle.edge_base.specs.Address.{IsAddrText, addr_text}
 use Rattle.edge_base.specs.Token.{number_of, is_reserved, IsBlockText}
 use Rattle.edge_base.specs.Terminal.{reserved}
-use Rattle.edge_base.specs.Grammar.{IsLiteral, text_literal, number_literal, address_literal, IsItem, literal_item, block_item, numbers_item, addresses_item, IsItems, one_item, more_items, IsTest, in_order, contains, matches, wildcard, strict_wildcard, in_list, in_items}
+use Rattle.edge_base.specs.Grammar.{IsLiteral, text_literal, number_literal, address_literal, IsListedItem, literal_item, block_item, numbers_item, addresses_item, IsListedItems, one_item, more_items, IsTest, in_order, contains, matches, wildcard, strict_wildcard, in_list, in_items}
 use Rattle.expr_parser.specs.Spelling.{quoted, signed, lit_spelling, order_word, item_spelling, items_spelling, test_spelling}
 use Rattle.expr_parser.proofs.TreeTerminals.{lit_terminal, item_terminals, items_terminals, test_terminals}
 use Rattle.expr_parser.proofs.Written.{ends_before, StandsFor, IsSound, AreSound, IsCutInto, cut_blank, cut_token, IsWritten}
@@ -69,7 +69,7 @@ range_written k first last t u stands h rest us ends cut =
     subst (λ v. IsCutInto v (t ∷ terminal.To ∷ u ∷ us)) (sym parts)
     (cut_token (stands (last ++ rest)) (cut_token (range_sign_stands (last ++ rest)) (h rest us ends cut)))
 
-item_written : {ts : List Terminal} {i : Item} → IsItem ts i → AreSound ts → IsWritten (item_spelling i) (item_terminals i)
+item_written : {ts : List Terminal} {i : Item} → IsListedItem ts i → AreSound ts → IsWritten (item_spelling i) (item_terminals i)
 item_written (literal_item l) sound = lit_written l sound.0
 item_written (block_item {a = a} {bits = bits}) sound =
     one_written kind.Block (addr_text a ++ codes "/" ++ decimal bits) (terminal.Block a bits) (λ rest ends. block_stands a bits sound.0.0 rest sound.0.1 ends)
@@ -91,7 +91,7 @@ item_before i is h later rest us cut =
     regrouped (item_spelling i) (32 ∷ items_spelling is) rest (item_terminals i) (items_terminals is) us
     (h (32 ∷ items_spelling is ++ rest) (items_terminals is ++ us) refl (cut_blank refl (later rest us cut)))
 
-items_written : {ts : List Terminal} {is : List Item} → IsItems ts is → AreSound ts → AreWritten is
+items_written : {ts : List Terminal} {is : List Item} → IsListedItems ts is → AreSound ts → AreWritten is
 items_written (one_item {i = i} d) sound = item_before i [] (item_written d sound) (λ rest us cut. cut)
 items_written (more_items {ts = ts} {rest = rest} {i = i} {is = is} d ds) sound =
     item_before i is (item_written d (sound_front ts rest sound)) (items_written ds (sound_back ts rest sound))

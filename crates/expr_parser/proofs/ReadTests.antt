@@ -10,7 +10,7 @@ use Rattle.edge_base.specs.declared.expression.Expr.{Expr}
 use Rattle.edge_base.specs.declared.expression.Expr.TheVariants as expr
 use Rattle.edge_base.specs.declared.terminal.Terminal.{Terminal}
 use Rattle.edge_base.specs.declared.terminal.Terminal.TheVariants as terminal
-use Rattle.edge_base.specs.Grammar.{text_literal, number_literal, address_literal, IsItem, literal_item, block_item, numbers_item, addresses_item, IsItems, one_item, more_items, IsTest, in_order, contains, matches, wildcard, strict_wildcard, in_list, in_items}
+use Rattle.edge_base.specs.Grammar.{text_literal, number_literal, address_literal, IsListedItem, literal_item, block_item, numbers_item, addresses_item, IsListedItems, one_item, more_items, IsTest, in_order, contains, matches, wildcard, strict_wildcard, in_list, in_items}
 use Rattle.expr_parser.specs.declared.testing.Testing.TheVariants as testing
 use Rattle.expr_parser.specs.declared.state.Frame.{Frame}
 use Rattle.expr_parser.specs.declared.state.Level.{Level}
@@ -36,7 +36,7 @@ address_as_item [] h e front a f below = refl
 address_as_item (terminal.To ∷ ts) h e front a f below = absurd h
 address_as_item (t ∷ ts) h e front a f below = refl
 
-read_item : {ts : List Terminal} {i : Item} → IsItem ts i → (rest : List Terminal) → NotTo rest → (e : Expr) (front : List Item) (f : Frame) (below : List Level)
+read_item : {ts : List Terminal} {i : Item} → IsListedItem ts i → (rest : List Terminal) → NotTo rest → (e : Expr) (front : List Item) (f : Frame) (below : List Level)
     → outcome (ts ++ rest) (state (mode.Testing e (testing.Items front)) f below) ≡ outcome rest (state (mode.Testing e (testing.Items (front ++ i ∷ []))) f below)
 read_item (literal_item text_literal) rest h e front f below = refl
 read_item (literal_item (number_literal {n})) rest h e front f below = number_as_item rest h e front n f below
@@ -45,7 +45,7 @@ read_item block_item rest h e front f below = refl
 read_item numbers_item rest h e front f below = refl
 read_item addresses_item rest h e front f below = refl
 
-item_not_to : {ts : List Terminal} {i : Item} → IsItem ts i → (rest : List Terminal) → NotTo (ts ++ rest)
+item_not_to : {ts : List Terminal} {i : Item} → IsListedItem ts i → (rest : List Terminal) → NotTo (ts ++ rest)
 item_not_to (literal_item text_literal) rest = tt
 item_not_to (literal_item number_literal) rest = tt
 item_not_to (literal_item address_literal) rest = tt
@@ -53,11 +53,11 @@ item_not_to block_item rest = tt
 item_not_to numbers_item rest = tt
 item_not_to addresses_item rest = tt
 
-items_not_to : {ts : List Terminal} {is : List Item} → IsItems ts is → (rest : List Terminal) → NotTo (ts ++ rest)
+items_not_to : {ts : List Terminal} {is : List Item} → IsListedItems ts is → (rest : List Terminal) → NotTo (ts ++ rest)
 items_not_to (one_item d) rest = item_not_to d rest
 items_not_to (more_items {ts} {rest = back} d ds) rest = rw (append_assoc ts back rest) (item_not_to d (back ++ rest))
 
-read_items : {ts : List Terminal} {is : List Item} → IsItems ts is → (rest : List Terminal) (e : Expr) (front : List Item) (f : Frame) (below : List Level)
+read_items : {ts : List Terminal} {is : List Item} → IsListedItems ts is → (rest : List Terminal) (e : Expr) (front : List Item) (f : Frame) (below : List Level)
     → outcome (ts ++ terminal.CloseItems ∷ rest) (state (mode.Testing e (testing.Items front)) f below)
     ≡ outcome rest (state (mode.Done (expr.Test e (test.Among (front ++ is)))) f below)
 read_items (one_item d) rest e front f below = read_item d (terminal.CloseItems ∷ rest) tt e front f below
@@ -68,7 +68,7 @@ read_items (more_items {ts} {rest = back} {i} {is} d ds) rest e front f below =
     ∙ ap (λ is. outcome rest (state (mode.Done (expr.Test e (test.Among is))) f below)) (append_assoc front (i ∷ []) is)
 
 -- the first item is read as any other
-item_first : {ts : List Terminal} {i : Item} → IsItem ts i → (rest : List Terminal) (e : Expr) (f : Frame) (below : List Level)
+item_first : {ts : List Terminal} {i : Item} → IsListedItem ts i → (rest : List Terminal) (e : Expr) (f : Frame) (below : List Level)
     → outcome (ts ++ rest) (state (mode.Testing e testing.FirstItem) f below) ≡ outcome (ts ++ rest) (state (mode.Testing e (testing.Items [])) f below)
 item_first (literal_item text_literal) rest e f below = refl
 item_first (literal_item number_literal) rest e f below = refl
@@ -77,7 +77,7 @@ item_first block_item rest e f below = refl
 item_first numbers_item rest e f below = refl
 item_first addresses_item rest e f below = refl
 
-items_first : {ts : List Terminal} {is : List Item} → IsItems ts is → (rest : List Terminal) (e : Expr) (f : Frame) (below : List Level)
+items_first : {ts : List Terminal} {is : List Item} → IsListedItems ts is → (rest : List Terminal) (e : Expr) (f : Frame) (below : List Level)
     → outcome (ts ++ rest) (state (mode.Testing e testing.FirstItem) f below) ≡ outcome (ts ++ rest) (state (mode.Testing e (testing.Items [])) f below)
 items_first (one_item d) rest e f below = item_first d rest e f below
 items_first (more_items {ts} {rest = back} d ds) rest e f below =

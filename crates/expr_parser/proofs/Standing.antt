@@ -8,7 +8,7 @@ use Rattle.edge_base.specs.declared.expression.Expr.{Expr}
 use Rattle.edge_base.specs.declared.expression.Expr.TheVariants as expr
 use Rattle.edge_base.specs.declared.terminal.Terminal.{Terminal}
 use Rattle.edge_base.specs.declared.terminal.Terminal.TheVariants as terminal
-use Rattle.edge_base.specs.Grammar.{together, IsLiteral, IsItem, IsItems, IsTest, IsExpression, IsChain, one_xor, more_xors, IsXor, one_and, more_ands, IsAnd, one_unit, more_units, IsUnit, negated, IsOperand, IsPath, IsArguments}
+use Rattle.edge_base.specs.Grammar.{together, IsLiteral, IsListedItem, IsListedItems, IsTest, IsExpression, IsChain, one_xor, more_xors, IsXor, one_and, more_ands, IsAnd, one_unit, more_units, IsUnit, negated, IsOperand, IsPath, IsArguments}
 use Rattle.expr_parser.specs.declared.testing.Testing.{Testing}
 use Rattle.expr_parser.specs.declared.testing.Testing.TheVariants as testing
 use Rattle.expr_parser.specs.declared.testing.Tested.{Tested}
@@ -69,7 +69,7 @@ Takes (l ∷ below) = TakesIn l.opened
 
 -- these terminals, with an item behind them, are items whose first ones are these
 abbrev pub ItemFront : List Item → List Terminal → Type 0
-ItemFront items w = (a : List Terminal) (i : Item) → IsItem a i → IsItems (w ++ a) (items ++ i ∷ [])
+ItemFront items w = (a : List Terminal) (i : Item) → IsListedItem a i → IsListedItems (w ++ a) (items ++ i ∷ [])
 
 -- a test under way has these terminals
 abbrev pub TestFront : Testing → List Terminal → Type 0
@@ -78,7 +78,7 @@ TestFront (testing.Text k) z = (t : List ℕ) → IsTest (z ++ terminal.Text t �
 TestFront testing.Strict z = z ≡ terminal.Strict ∷ []
 TestFront testing.In z = z ≡ terminal.In ∷ []
 TestFront testing.FirstItem z = z ≡ terminal.In ∷ terminal.OpenItems ∷ []
-TestFront (testing.Items items) z = (w : List Terminal) × IsItems w items × (z ≡ terminal.In ∷ terminal.OpenItems ∷ w)
+TestFront (testing.Items items) z = (w : List Terminal) × IsListedItems w items × (z ≡ terminal.In ∷ terminal.OpenItems ∷ w)
 TestFront (testing.Number items n) z = (w : List Terminal) × ItemFront items w × (z ≡ terminal.In ∷ terminal.OpenItems ∷ (w ++ terminal.Number n ∷ []))
 TestFront (testing.Address items a) z = (w : List Terminal) × ItemFront items w × (z ≡ terminal.In ∷ terminal.OpenItems ∷ (w ++ terminal.Address a ∷ []))
 TestFront (testing.NumberTo items n) z = (w : List Terminal) × ItemFront items w × (z ≡ terminal.In ∷ terminal.OpenItems ∷ (w ++ terminal.Number n ∷ terminal.To ∷ []))

@@ -9,7 +9,7 @@ use Rattle.edge_base.specs.declared.expression.Item.{Item}
 use Rattle.edge_base.specs.declared.expression.Item.TheVariants as item
 use Rattle.edge_base.specs.declared.terminal.Terminal.{Terminal}
 use Rattle.edge_base.specs.declared.terminal.Terminal.TheVariants as terminal
-use Rattle.edge_base.specs.Grammar.{text_literal, number_literal, address_literal, literal_item, block_item, numbers_item, addresses_item, IsItems, one_item, more_items, in_order, strict_wildcard, in_list, in_items}
+use Rattle.edge_base.specs.Grammar.{text_literal, number_literal, address_literal, literal_item, block_item, numbers_item, addresses_item, IsListedItems, one_item, more_items, in_order, strict_wildcard, in_list, in_items}
 use Rattle.expr_parser.specs.declared.testing.TextTest.{TextTest}
 use Rattle.expr_parser.specs.declared.testing.Testing.{Testing}
 use Rattle.expr_parser.specs.declared.testing.Testing.TheVariants as testing
@@ -22,10 +22,10 @@ TestNext None z = Unit {0}
 TestNext (Some p) z = TestedBy p z
 
 -- one more item behind items
-items_more : {w : List Terminal} {items : List Item} → IsItems w items → ItemFront items w
+items_more : {w : List Terminal} {items : List Item} → IsListedItems w items → ItemFront items w
 items_more (one_item d) a i q = more_items d (one_item q)
 items_more (more_items {ts} {rest} {i = first} {is = items} d ds) a i q =
-    subst (λ z. IsItems z (first ∷ (items ++ i ∷ []))) (sym (append_assoc ts rest a)) (more_items d (items_more ds a i q))
+    subst (λ z. IsListedItems z (first ∷ (items ++ i ∷ []))) (sym (append_assoc ts rest a)) (more_items d (items_more ds a i q))
 
 order_next : (t : Terminal) (o : Order) (z : List Terminal) → z ≡ terminal.Order o ∷ [] → TestNext (at_order t o) (z ++ t ∷ [])
 order_next (terminal.Text x) o z p = rw p (in_order text_literal)
@@ -53,7 +53,7 @@ item_next (terminal.Number n) items w z h p = (w, h, ap (λ v. v ++ terminal.Num
 item_next (terminal.Address a) items w z h p = (w, h, ap (λ v. v ++ terminal.Address a ∷ []) p)
 item_next t items w z h p = tt
 
-items_next : (t : Terminal) (items : List Item) (w z : List Terminal) → IsItems w items → z ≡ terminal.In ∷ terminal.OpenItems ∷ w → TestNext (at_items t items) (z ++ t ∷ [])
+items_next : (t : Terminal) (items : List Item) (w z : List Terminal) → IsListedItems w items → z ≡ terminal.In ∷ terminal.OpenItems ∷ w → TestNext (at_items t items) (z ++ t ∷ [])
 items_next terminal.CloseItems items w z d p = rw p (in_items d)
 items_next t items w z d p = item_next t items w z (items_more d) p
 

@@ -5,13 +5,13 @@ use Rattle.edge_base.specs.declared.terminal.Terminal.TheVariants as terminal
 use Rattle.edge_base.specs.declared.token.TokenKind.{TokenKind}
 use Rattle.edge_base.specs.declared.token.TokenKind.TheVariants as kind
 use Rattle.edge_base.specs.Address.{IsAddrText}
-use Rattle.edge_base.specs.Token.{is_blank, number_of, list_name_of, IsBlockText, IsTokenOf}
+use Rattle.edge_base.specs.Token.{is_blank_byte, number_of, list_name_of, IsBlockText, IsTokenOf}
 use Rattle.edge_base.specs.Cut.{IsLongest, may_stand_before}
 use Rattle.edge_base.specs.Terminal.{IsTerminalOf}
 
 -- a byte at which each token ends that is none in quotes: a blank, the comma, `(`, `)`, `[` and `]`
 abbrev pub is_end_byte : ℕ → Bool
-is_end_byte byte = is_blank byte || byte == 40 || byte == 41 || byte == 44 || byte == 91 || byte == 93
+is_end_byte byte = is_blank_byte byte || byte == 40 || byte == 41 || byte == 44 || byte == 91 || byte == 93
 
 -- the text is at its end, or goes on with such a byte
 abbrev pub ends_before : List ℕ → Bool
@@ -41,7 +41,7 @@ AreSound (t ∷ ts) = IsSound t × AreSound ts
 -- the text falls into tokens of these terminals, with blanks between them
 pub data IsCutInto : List ℕ → List Terminal → Type 0 where
   cut_end : IsCutInto [] []
-  cut_blank : {byte : ℕ} {rest : List ℕ} {ts : List Terminal} → is_blank byte ≡ true → IsCutInto rest ts → IsCutInto (byte ∷ rest) ts
+  cut_blank : {byte : ℕ} {rest : List ℕ} {ts : List Terminal} → is_blank_byte byte ≡ true → IsCutInto rest ts → IsCutInto (byte ∷ rest) ts
   cut_token : {k : TokenKind} {text rest : List ℕ} {t : Terminal} {ts : List Terminal} → StandsFor k text rest t → IsCutInto rest ts → IsCutInto (text ++ rest) (t ∷ ts)
 
 -- the text falls into tokens of these terminals wherever a rest follows at which it ends

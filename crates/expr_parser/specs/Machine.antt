@@ -1,3 +1,4 @@
+-- Working vocabulary, which no public clause cites.
 -- The machine that reads an expression, one terminal after the other: a state is what came last, the innermost level
 -- and the levels around it, with the trees of what is whole.
 use Rattle.std.specs.Prelude.{ℕ, zero, suc, pos, true, false, List, [], ◌∷◌, ◌++◌}

@@ -1,6 +1,6 @@
 -- How a tree is spelled: words in place of signs, one blank between tokens but none inside `[ ]`, around `..`, before
 -- `(` of a call, `,` and `)`, or behind `(`; parentheses only where needed.
-use Rattle.std.specs.Prelude.{ℕ, suc, ◌==◌, nat_lt, Bool, true, false, cond, ◌||◌, List, [], ◌∷◌, ◌++◌, ℤ, pos, negsuc, codes, decimal}
+use Rattle.std.specs.Prelude.{ℕ, suc, ◌+◌, ◌==◌, nat_lt, Bool, true, false, cond, ◌||◌, List, [], ◌∷◌, ◌++◌, ℤ, pos, negsuc, codes, decimal}
 use Rattle.edge_base.specs.declared.expression.Lit.{Lit}
 use Rattle.edge_base.specs.declared.expression.Lit.TheVariants as lit
 use Rattle.edge_base.specs.declared.expression.Order.{Order}
@@ -78,18 +78,25 @@ joined joint tightness (s ∷ t ∷ rest) = s tightness ++ joint ++ joined joint
 abbrev pub within : Bool → List ℕ → List ℕ
 within needed text = cond needed (codes "(" ++ text ++ codes ")") text
 
+abbrev pub call_spelling : List ℕ → List SpelledAt → List ℕ
+call_spelling name args = name ++ codes "(" ++ joined (codes ", ") 0 args ++ codes ")"
+
+-- a chain that binds so tight, at a place
+abbrev pub chain_spelling : ℕ → List ℕ → List SpelledAt → SpelledAt
+chain_spelling own joint members n = within (nat_lt own n) (joined joint (own + 1) members)
+
 abbrev pub spelling_step : open_expr.Expr-F SpelledAt → SpelledAt
 spelling_step (open_expr.Lit l) n = lit_spelling l
 spelling_step (open_expr.Field name) n = name
-spelling_step (open_expr.Call name args) n = name ++ codes "(" ++ joined (codes ", ") 0 args ++ codes ")"
+spelling_step (open_expr.Call name args) n = call_spelling name args
 spelling_step (open_expr.At e at) n = e 3 ++ codes "[" ++ signed at ++ codes "]"
 spelling_step (open_expr.Key e key) n = e 3 ++ codes "[" ++ quoted key ++ codes "]"
 spelling_step (open_expr.Each e) n = e 3 ++ codes "[*]"
 spelling_step (open_expr.Test e t) n = e 3 ++ codes " " ++ test_spelling t
 spelling_step (open_expr.Not e) n = codes "not " ++ e 3
-spelling_step (open_expr.And es) n = within (nat_lt 2 n) (joined (codes " and ") 3 es)
-spelling_step (open_expr.Xor es) n = within (nat_lt 1 n) (joined (codes " xor ") 2 es)
-spelling_step (open_expr.Or es) n = within (nat_lt 0 n) (joined (codes " or ") 1 es)
+spelling_step (open_expr.And es) n = chain_spelling 2 (codes " and ") es n
+spelling_step (open_expr.Xor es) n = chain_spelling 1 (codes " xor ") es n
+spelling_step (open_expr.Or es) n = chain_spelling 0 (codes " or ") es n
 
 abbrev pub spelling_at : Expr → SpelledAt
 spelling_at = fold-Expr SpelledAt spelling_step

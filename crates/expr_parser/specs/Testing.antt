@@ -1,3 +1,4 @@
+-- Working vocabulary, which no public clause cites.
 -- The machine that reads a test: what a test under way becomes by the next terminal.
 use Rattle.std.specs.Prelude.{ℕ, ℤ, List, [], ◌∷◌, ◌++◌}
 use Rattle.std.specs.declared.option.Option.{Option}

@@ -1,6 +1,6 @@
 ghost use Rattle.std.specs.Prelude.{◌≡◌, [], ◌∷◌, ◌++◌, IfOk};
 ghost use Rattle.edge_base.specs.Grammar.{together};
-ghost use Rattle.expr_parser.specs.Machine.{negate, node_of, chain_of};
+ghost use Rattle.expr_parser.specs.Machine.{frame, negate, node_of, and_of, xor_of, chain_of};
 
 use crate::state::Frame;
 use edge_base::{Expr, Exprs, Memory};
@@ -53,7 +53,7 @@ fn joined(operator: Operator, members: Exprs, last: Expr) -> Result<Expr, Memory
 
 /// The and of a level that ends with this unit.
 pub fn and_of(alloc: Global, ands: Exprs, nots: u32, unit: Expr) -> Result<Expr, Memory>
-    ensures { IfOk result (λ e. e ≡ together Expr.And (ands ++ negate nots unit ∷ [])) }
+    ensures { IfOk result (λ e. e ≡ and_of (frame [] [] ands nots) unit) }
 {
     let unit = negated(alloc, nots, unit)?;
     joined(Operator::And, ands, unit)
@@ -67,7 +67,7 @@ pub fn xor_of(
     nots: u32,
     unit: Expr,
 ) -> Result<Expr, Memory>
-    ensures { IfOk result (λ e. e ≡ together Expr.Xor (xors ++ together Expr.And (ands ++ negate nots unit ∷ []) ∷ [])) }
+    ensures { IfOk result (λ e. e ≡ xor_of (frame [] xors ands nots) unit) }
 {
     let and = and_of(alloc, ands, nots, unit)?;
     joined(Operator::Xor, xors, and)

@@ -1,5 +1,5 @@
-ghost use Rattle.std.specs.Prelude.{◌≡◌, ◌+◌, ◌≤◌, ◌++◌, map, nat_lt, codes, IfOk, OnOk};
-ghost use Rattle.expr_parser.specs.Spelling.{joined, within, spelling_at, spelling};
+ghost use Rattle.std.specs.Prelude.{◌≡◌, ◌≤◌, ◌++◌, map, IfOk, OnOk};
+ghost use Rattle.expr_parser.specs.Spelling.{joined, call_spelling, chain_spelling, spelling_at, spelling};
 ghost use Rattle.expr_parser.specs.Reread.{IsReadAgain, SpellingsAreParsedAgain, PairsAreNeeded};
 
 use crate::grammar::answers_are_unique;
@@ -39,7 +39,7 @@ fn push_chain(
     tightness: u8,
 ) -> Result<(), Memory>
     requires { own ≤ 2 }
-    ensures { OnOk result (out.new ≡ out.old ++ within (nat_lt own tightness) (joined joint.now (own + 1) (map spelling_at members.now))) }
+    ensures { OnOk result (out.new ≡ out.old ++ chain_spelling own joint.now (map spelling_at members.now) tightness) }
 {
     if tightness <= own {
         return push_joined(alloc, out, members, joint, own + 1);
@@ -52,7 +52,7 @@ fn push_chain(
 /// A call: its name, and its arguments in parentheses.
 #[cycle(printing)]
 fn push_call(alloc: Global, out: &mut TextBuilder, name: &[u8], args: &[Expr]) -> Result<(), Memory>
-    ensures { OnOk result (out.new ≡ out.old ++ (name.now ++ codes "(" ++ joined (codes ", ") 0 (map spelling_at args.now) ++ codes ")")) }
+    ensures { OnOk result (out.new ≡ out.old ++ call_spelling name.now (map spelling_at args.now)) }
 {
     out.push(name)?;
     out.push(b"(")?;

@@ -1,7 +1,7 @@
-ghost use Rattle.std.specs.Prelude.{◌≡◌, IfOk, is_some, MatchOption};
-ghost use Rattle.edge_base.specs.Grammar.{Derives, IsFault, DeriveAtMostOne, HaveOneFault, UnderivedHaveFaults};
+ghost use Rattle.std.specs.Prelude.{◌≡◌, IfOk, is_some};
+ghost use Rattle.edge_base.specs.Grammar.{DeriveAtMostOne, HaveOneFault, UnderivedHaveFaults};
 ghost use Rattle.expr_parser.specs.Machine.{bare_mode, bared};
-ghost use Rattle.expr_parser.specs.Reading.{IsReading};
+ghost use Rattle.expr_parser.specs.Reading.{IsReading, IsFaultOrTree};
 
 use crate::levels::{fresh, start};
 use crate::machine::{ended, step};
@@ -70,7 +70,7 @@ fn is_tree(tree: Option<Expr>) -> bool
 
 /// The fault of terminals that may nest deep: their tree is never built.
 pub fn fault_of(alloc: Global, terminals: Vec<Terminal>) -> Result<Option<usize>, Memory>
-    ensures { IfOk result (λ found. MatchOption found ((e : Expr) × Derives terminals.items e) (λ at. IsFault terminals.items at)) }
+    ensures { IfOk result (λ found. IsFaultOrTree terminals.items found) }
 {
     let mut state = start(alloc);
     let mut at = 0;

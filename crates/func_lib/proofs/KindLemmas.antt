@@ -17,12 +17,14 @@ use Rattle.edge_fields.specs.declared.value.Value.{Value}
 use Rattle.edge_fields.specs.declared.value.Value.TheVariants as value
 use Rattle.edge_fields.specs.Kinds.{HasBasic, HasKind}
 use Rattle.edge_fields.specs.Names.{function_kind}
-use Rattle.func_lib.specs.Arguments.{text_of, items_of, entries_of, all_of, only_of, one_text, pair_of, two_texts, three_texts}
+use Rattle.edge_fields.specs.Values.{text_in, items_in, entries_in}
+use Rattle.func_lib.specs.Arguments.{all_of, only_of, one_text, pair_of, two_texts, three_texts}
 use Rattle.func_lib.specs.Arrays.{truths_of, size_of, has_text, has_number, pieces_between, joined, array_and_text}
 use Rattle.func_lib.specs.Base64.{engine_of, text_and_flags, decoded}
 use Rattle.func_lib.specs.Functions.{function_of, FunctionsKeepKinds}
 use Rattle.func_lib.specs.Json.{looked_up}
-use Rattle.func_lib.specs.Replacing.{first_takes, wildcard_arguments, wild_of, filled_or}
+use Rattle.text_match.specs.Takes.{first_takes}
+use Rattle.func_lib.specs.Replacing.{wildcard_arguments, wild_of, filled_or}
 use Rattle.func_lib.specs.Texts.{part_of, text_and_places, without, string_of, written_of, is_concat_count}
 use Rattle.func_lib.specs.Urls.{url_decoded}
 
@@ -67,14 +69,14 @@ kind_of function.Concat vs =
     (text_kind (all_of written_of vs) concat)
 kind_of function.ToString vs = text_kind (option_and_then string_of (only_of vs)) (λ text. text)
 kind_of function.HasKey vs =
-    then_kind (pair_of vs) (HasBasic basic.Bool) _ (λ args. then_kind (entries_of args.0) (HasBasic basic.Bool) _
-    (λ entries. truth_kind (text_of args.1) (λ key. is_some (lookup (bytes_eq key) entries))))
+    then_kind (pair_of vs) (HasBasic basic.Bool) _ (λ args. then_kind (entries_in args.0) (HasBasic basic.Bool) _
+    (λ entries. truth_kind (text_in args.1) (λ key. is_some (lookup (bytes_eq key) entries))))
 kind_of function.HasValue vs =
-    then_kind (pair_of vs) (HasBasic basic.Bool) _ (λ args. then_kind (items_of args.0) (HasBasic basic.Bool) _
+    then_kind (pair_of vs) (HasBasic basic.Bool) _ (λ args. then_kind (items_in args.0) (HasBasic basic.Bool) _
     (λ items. truth_kind (option_or (has_text items args.1) (has_number items args.1)) (λ truth. truth)))
 kind_of function.Split vs = pieces_kind (two_texts vs)
 kind_of function.Join vs =
-    then_kind (array_and_text vs) (HasBasic basic.Text) _ (λ args. text_kind (all_of text_of args.0) (joined args.1))
+    then_kind (array_and_text vs) (HasBasic basic.Text) _ (λ args. text_kind (all_of text_in args.0) (joined args.1))
 kind_of function.LookupJsonString vs = text_kind (option_and_then as_str (looked_up vs)) (λ text. text)
 kind_of function.LookupJsonInteger vs = number_kind (option_and_then as_i64 (option_and_then as_number (looked_up vs))) (λ number. number)
 kind_of function.EncodeBase64 vs =

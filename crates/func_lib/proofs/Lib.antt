@@ -1,5 +1,4 @@
 pub mod JsonLemmas
 pub mod KindLemmas
 pub mod PieceLemmas
-pub mod TakeLemmas
 pub mod UrlLemmas

@@ -1,77 +1,13 @@
 -- The arguments of a call, where they are as many and of such kinds as a function takes.
-use Rattle.std.specs.Prelude.{ℕ, ℤ, Bool, List, [], ◌∷◌, Option, None, Some, option_and_then}
+use Rattle.std.specs.Prelude.{ℕ, List, [], ◌∷◌, Option, None, Some, option_and_then}
 use Rattle.std.specs.Option.{option_map, option_zip}
-use Rattle.edge_fields.specs.declared.value.Value.{Value, out-Value}
-use Rattle.edge_fields.specs.declared.value.Value.TheOpen as open_value
-
--- ---- one value
-
-abbrev pub text_in : open_value.Value-F Value → Option (List ℕ)
-text_in (open_value.Text text) = Some text
-text_in (open_value.Num number) = None
-text_in (open_value.Addr addr) = None
-text_in (open_value.Bool truth) = None
-text_in (open_value.Array items) = None
-text_in (open_value.Map entries) = None
-
--- the text that a value is
-abbrev pub text_of : Value → Option (List ℕ)
-text_of v = text_in (out-Value v)
-
-abbrev pub number_in : open_value.Value-F Value → Option ℤ
-number_in (open_value.Text text) = None
-number_in (open_value.Num number) = Some number
-number_in (open_value.Addr addr) = None
-number_in (open_value.Bool truth) = None
-number_in (open_value.Array items) = None
-number_in (open_value.Map entries) = None
-
--- the number that a value is
-abbrev pub number_of : Value → Option ℤ
-number_of v = number_in (out-Value v)
-
-abbrev pub truth_in : open_value.Value-F Value → Option Bool
-truth_in (open_value.Text text) = None
-truth_in (open_value.Num number) = None
-truth_in (open_value.Addr addr) = None
-truth_in (open_value.Bool truth) = Some truth
-truth_in (open_value.Array items) = None
-truth_in (open_value.Map entries) = None
-
--- the truth value that a value is
-abbrev pub truth_of : Value → Option Bool
-truth_of v = truth_in (out-Value v)
-
-abbrev pub items_in : open_value.Value-F Value → Option (List Value)
-items_in (open_value.Text text) = None
-items_in (open_value.Num number) = None
-items_in (open_value.Addr addr) = None
-items_in (open_value.Bool truth) = None
-items_in (open_value.Array items) = Some items
-items_in (open_value.Map entries) = None
-
--- the elements of the array that a value is
-abbrev pub items_of : Value → Option (List Value)
-items_of v = items_in (out-Value v)
-
-abbrev pub entries_in : open_value.Value-F Value → Option (List (List ℕ × List (List ℕ)))
-entries_in (open_value.Text text) = None
-entries_in (open_value.Num number) = None
-entries_in (open_value.Addr addr) = None
-entries_in (open_value.Bool truth) = None
-entries_in (open_value.Array items) = None
-entries_in (open_value.Map entries) = Some entries
-
--- the pairs of the map that a value is
-abbrev pub entries_of : Value → Option (List (List ℕ × List (List ℕ)))
-entries_of v = entries_in (out-Value v)
+use Rattle.edge_fields.specs.declared.value.Value.{Value}
+use Rattle.edge_fields.specs.Values.{text_in}
 
 -- what an argument is that may be left out
 abbrev pub optional_of : {A : Type 0} → (Value → Option A) → Option Value → Option (Option A)
 optional_of read None = Some None
 optional_of read (Some v) = option_map Some (read v)
-
--- ---- several values
 
 -- what each value is, where each is of the kind that is read
 abbrev pub all_of : {A : Type 0} → (Value → Option A) → List Value → Option (List A)
@@ -86,7 +22,7 @@ only_of (v ∷ w ∷ vs) = None
 
 -- the only argument, a text
 abbrev pub one_text : List Value → Option (List ℕ)
-one_text vs = option_and_then text_of (only_of vs)
+one_text vs = option_and_then text_in (only_of vs)
 
 -- two arguments
 abbrev pub pair_of : List Value → Option (Value × Value)
@@ -97,7 +33,7 @@ pair_of (v ∷ w ∷ x ∷ vs) = None
 
 -- two arguments, both texts
 abbrev pub two_texts : List Value → Option (List ℕ × List ℕ)
-two_texts vs = option_and_then (λ (v, w). option_zip (text_of v) (text_of w)) (pair_of vs)
+two_texts vs = option_and_then (λ (v, w). option_zip (text_in v) (text_in w)) (pair_of vs)
 
 -- two arguments, or three
 abbrev pub two_or_three : List Value → Option (Value × Value × Option Value)
@@ -125,7 +61,7 @@ triple_of (v ∷ w ∷ x ∷ y ∷ vs) = None
 -- what three values are, all texts
 abbrev pub texts_of_three : Value × Value × Value → Option (List ℕ × List ℕ × List ℕ)
 texts_of_three args =
-    option_and_then (λ a. option_and_then (λ b. option_map (λ c. (a, b, c)) (text_of args.2)) (text_of args.1)) (text_of args.0)
+    option_and_then (λ a. option_and_then (λ b. option_map (λ c. (a, b, c)) (text_in args.2)) (text_in args.1)) (text_in args.0)
 
 -- three arguments, all texts
 abbrev pub three_texts : List Value → Option (List ℕ × List ℕ × List ℕ)

@@ -8,11 +8,12 @@ use Rattle.edge_fields.specs.declared.value.Value.{Value, out-Value}
 use Rattle.edge_fields.specs.declared.value.Value.TheOpen as open_value
 use Rattle.edge_fields.specs.declared.value.Value.TheVariants as value
 use Rattle.edge_fields.specs.Fields.{texts}
-use Rattle.func_lib.specs.Arguments.{text_of, number_of, truth_of, items_of, entries_of, all_of, only_of, pair_of, two_texts}
+use Rattle.edge_fields.specs.Values.{text_in, number_in, truth_in, items_in, entries_in}
+use Rattle.func_lib.specs.Arguments.{all_of, only_of, pair_of, two_texts}
 
 -- the only argument, an array of truth values
 abbrev pub truths_of : List Value → Option (List Bool)
-truths_of vs = option_and_then (all_of truth_of) (option_and_then items_of (only_of vs))
+truths_of vs = option_and_then (all_of truth_in) (option_and_then items_in (only_of vs))
 
 -- any: whether some element is true
 abbrev pub any_of : List Value → Option Value
@@ -42,21 +43,21 @@ len_of vs = option_map (λ size. value.Num (pos size)) (option_and_then size_of 
 abbrev pub has_key_of : List Value → Option Value
 has_key_of vs =
     option_and_then (λ args. option_and_then (λ entries. option_map (λ key. value.Bool (is_some (lookup (bytes_eq key) entries)))
-    (text_of args.1)) (entries_of args.0)) (pair_of vs)
+    (text_in args.1)) (entries_in args.0)) (pair_of vs)
 
 -- whether one of some texts is equal to a text
 abbrev pub has_text : List Value → Value → Option Bool
-has_text items v = option_and_then (λ text. option_map (list_any (bytes_eq text)) (all_of text_of items)) (text_of v)
+has_text items v = option_and_then (λ text. option_map (list_any (bytes_eq text)) (all_of text_in items)) (text_in v)
 
 -- whether one of some numbers is equal to a number
 abbrev pub has_number : List Value → Value → Option Bool
-has_number items v = option_and_then (λ number. option_map (list_any (int_eq number)) (all_of number_of items)) (number_of v)
+has_number items v = option_and_then (λ number. option_map (list_any (int_eq number)) (all_of number_in items)) (number_in v)
 
 -- has_value: whether some element is equal to the text or number
 abbrev pub has_value_of : List Value → Option Value
 has_value_of vs =
     option_and_then (λ args. option_and_then (λ items. option_map value.Bool (option_or (has_text items args.1) (has_number items args.1)))
-    (items_of args.0)) (pair_of vs)
+    (items_in args.0)) (pair_of vs)
 
 -- the pieces of a text between the places at which a separator that isn't empty stands, found from the left and
 -- without overlap; `skip` counts the bytes of the last one that are still to be passed over
@@ -86,9 +87,9 @@ joined separator (part ∷ parts) = part ++ after_separators separator parts
 
 -- an array and a text
 abbrev pub array_and_text : List Value → Option (List Value × List ℕ)
-array_and_text vs = option_and_then (λ args. option_zip (items_of args.0) (text_of args.1)) (pair_of vs)
+array_and_text vs = option_and_then (λ args. option_zip (items_in args.0) (text_in args.1)) (pair_of vs)
 
 -- join: the elements with the separator between
 abbrev pub join_of : List Value → Option Value
 join_of vs =
-    option_and_then (λ args. option_map (λ parts. value.Text (joined args.1 parts)) (all_of text_of args.0)) (array_and_text vs)
+    option_and_then (λ args. option_map (λ parts. value.Text (joined args.1 parts)) (all_of text_in args.0)) (array_and_text vs)

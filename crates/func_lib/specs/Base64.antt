@@ -8,7 +8,8 @@ use Rattle.base64.specs.Engines.{standard, standard_no_pad, url_safe, url_safe_n
 use Rattle.base64.specs.GeneralPurpose.{encode_of, decode_of}
 use Rattle.edge_fields.specs.declared.value.Value.{Value}
 use Rattle.edge_fields.specs.declared.value.Value.TheVariants as value
-use Rattle.func_lib.specs.Arguments.{text_of, optional_of, one_text, one_or_two}
+use Rattle.edge_fields.specs.Values.{text_in}
+use Rattle.func_lib.specs.Arguments.{optional_of, one_text, one_or_two}
 
 -- the engine that flags choose: `u` the URL-safe alphabet, `p` padding, each at most once
 abbrev pub engine_of : List ℕ → Option GeneralPurpose
@@ -23,7 +24,7 @@ engine_of flags =
 abbrev pub text_and_flags : List Value → Option (List ℕ × List ℕ)
 text_and_flags vs =
     option_and_then (λ args. option_and_then (λ text. option_map (λ flags. (text, unwrap_or flags []))
-    (optional_of text_of args.1)) (text_of args.0)) (one_or_two vs)
+    (optional_of text_in args.1)) (text_in args.0)) (one_or_two vs)
 
 -- encode_base64: the text by the engine that the flags choose
 abbrev pub encode_base64_of : List Value → Option Value

@@ -8,7 +8,7 @@ use Rattle.serde_json.specs.Read.{read}
 use Rattle.edge_fields.specs.declared.value.Value.{Value, out-Value}
 use Rattle.edge_fields.specs.declared.value.Value.TheOpen as open_value
 use Rattle.edge_fields.specs.declared.value.Value.TheVariants as value
-use Rattle.func_lib.specs.Arguments.{text_of}
+use Rattle.edge_fields.specs.Values.{text_in}
 
 -- the JSON value that a text is, if it is one
 abbrev pub json_of : List ℕ → Option Data
@@ -47,7 +47,7 @@ is_key_count keys = nat_le 1 (length keys) && nat_le (length keys) 8
 -- a text and from one key to eight
 abbrev pub text_and_keys : List Value → Option (List ℕ × List Value)
 text_and_keys [] = None
-text_and_keys (v ∷ keys) = if is_key_count keys then option_map (λ text. (text, keys)) (text_of v) else None
+text_and_keys (v ∷ keys) = if is_key_count keys then option_map (λ text. (text, keys)) (text_in v) else None
 
 -- what the keys lead to in the JSON value that the text is
 abbrev pub looked_up : List Value → Option Data

@@ -4,10 +4,12 @@ use Rattle.std.specs.List.{list_any, between, concat, starts_with, ends_with}
 use Rattle.std.specs.Option.{option_map, option_or}
 use Rattle.std.specs.Str.{str_to_ascii_lowercase, str_to_ascii_uppercase}
 use Rattle.edge_base.specs.Address.{addr_text}
+use Rattle.edge_base.specs.Bytes.{minus}
 use Rattle.edge_fields.specs.declared.value.Value.{Value, out-Value}
 use Rattle.edge_fields.specs.declared.value.Value.TheOpen as open_value
 use Rattle.edge_fields.specs.declared.value.Value.TheVariants as value
-use Rattle.func_lib.specs.Arguments.{text_of, number_of, all_of, optional_of, only_of, one_text, two_texts, two_or_three}
+use Rattle.edge_fields.specs.Values.{text_in, number_in}
+use Rattle.func_lib.specs.Arguments.{all_of, optional_of, only_of, one_text, two_texts, two_or_three}
 
 -- lower: the text with its ASCII letters in lower case
 abbrev pub lower_of : List Value → Option Value
@@ -35,7 +37,7 @@ part_of text start end = between (place_in (length text) start) (end_in (length 
 abbrev pub text_and_places : List Value → Option (List ℕ × ℤ × Option ℤ)
 text_and_places vs =
     option_and_then (λ args. option_and_then (λ text. option_and_then (λ start. option_map (λ end. (text, start, end))
-    (optional_of number_of args.2)) (number_of args.1)) (text_of args.0)) (two_or_three vs)
+    (optional_of number_in args.2)) (number_in args.1)) (text_in args.0)) (two_or_three vs)
 
 -- substring: the bytes from the first place up to the second
 abbrev pub substring_of : List Value → Option Value
@@ -60,7 +62,7 @@ ends_with_of vs = option_map (λ args. value.Bool (ends_with nat_eq args.0 args.
 -- a number in decimal, with `-` before a negative one
 abbrev pub signed : ℤ → List ℕ
 signed (pos n) = decimal n
-signed (negsuc n) = 45 ∷ decimal (suc n)
+signed (negsuc n) = minus ∷ decimal (suc n)
 
 -- a truth value as a word
 abbrev pub truth_word : Bool → List ℕ
@@ -85,7 +87,7 @@ to_string_of vs = option_map value.Text (option_and_then string_of (only_of vs))
 
 -- how a text, a number, an address or a truth value is written: a text as it is
 abbrev pub written_of : Value → Option (List ℕ)
-written_of v = option_or (text_of v) (string_of v)
+written_of v = option_or (text_in v) (string_of v)
 
 -- from one value to sixteen
 abbrev pub is_concat_count : List Value → Bool

@@ -1,18 +1,19 @@
--- What the function of URL encoding gives. 37 is `%`, 43 is `+` and 32 a blank.
+-- What the function of URL encoding gives.
 use Rattle.std.specs.Prelude.{ℕ, ◌+◌, ◌*◌, Bool, ◌&&◌, ◌==◌, List, [], ◌∷◌, Option, if◌then◌else◌}
 use Rattle.std.specs.Char.{digit_value, is_digit}
 use Rattle.std.specs.Option.{option_map}
+use Rattle.edge_base.specs.Bytes.{space, percent, plus}
 use Rattle.edge_fields.specs.declared.value.Value.{Value}
 use Rattle.edge_fields.specs.declared.value.Value.TheVariants as value
 use Rattle.func_lib.specs.Arguments.{one_text}
 
 -- a byte that no escape takes in: a `+` is a blank, another stays
 abbrev pub unescaped : ℕ → ℕ
-unescaped byte = if byte == 43 then 32 else byte
+unescaped byte = if byte == plus then space else byte
 
 -- these three bytes are `%` and two hexadecimal digits
 abbrev pub is_escape : ℕ → ℕ → ℕ → Bool
-is_escape byte high low = byte == 37 && is_digit high 16 && is_digit low 16
+is_escape byte high low = byte == percent && is_digit high 16 && is_digit low 16
 
 -- a text with each `+` as a blank and each `%` with two hexadecimal digits as its byte, in one pass
 unfoldable pub url_decoded : List ℕ → List ℕ

@@ -1,61 +1,12 @@
 //! The arguments of a call, taken apart by their number and kinds.
 ghost use Rattle.std.specs.Prelude.{◌≡◌};
 ghost use Rattle.std.specs.Option.{option_map, option_copied};
-ghost use Rattle.func_lib.specs.Arguments.{text_of, number_of, truth_of, items_of, entries_of, only_of, one_text, pair_of, two_texts, two_or_three, optional_of};
+ghost use Rattle.edge_fields.specs.Values.{text_in, number_in, truth_in, items_in, entries_in};
+ghost use Rattle.func_lib.specs.Arguments.{only_of, one_text, pair_of, two_texts, two_or_three, optional_of};
 ghost use Rattle.func_lib.specs.Arguments.{one_or_two, triple_of, texts_of_three, three_texts, three_or_four};
 
 use edge_base::Text;
 use edge_fields::{TextMap, Value};
-
-/// The text that a value is.
-pub(crate) fn text_of(value: &Value) -> Option<&Text>
-    ensures { option_copied result ≡ text_of value.now }
-{
-    match value {
-        Value::Text(text) => Some(text),
-        _ => None,
-    }
-}
-
-/// The number that a value is.
-pub(crate) fn number_of(value: &Value) -> Option<i64>
-    ensures { result ≡ number_of value.now }
-{
-    match value {
-        Value::Num(number) => Some(*number),
-        _ => None,
-    }
-}
-
-/// The truth value that a value is.
-pub(crate) fn truth_of(value: &Value) -> Option<bool>
-    ensures { result ≡ truth_of value.now }
-{
-    match value {
-        Value::Bool(truth) => Some(*truth),
-        _ => None,
-    }
-}
-
-/// The elements of the array that a value is.
-pub(crate) fn items_of(value: &Value) -> Option<&[Value]>
-    ensures { option_copied result ≡ items_of value.now }
-{
-    match value {
-        Value::Array(items) => Some(items.as_slice()),
-        _ => None,
-    }
-}
-
-/// The map that a value is.
-pub(crate) fn entries_of(value: &Value) -> Option<&TextMap>
-    ensures { option_copied result ≡ entries_of value.now }
-{
-    match value {
-        Value::Map(map) => Some(map),
-        _ => None,
-    }
-}
 
 /// The only argument.
 pub(crate) fn only_of(args: &[Value]) -> Option<&Value>
@@ -71,7 +22,7 @@ pub(crate) fn only_of(args: &[Value]) -> Option<&Value>
 pub(crate) fn one_text(args: &[Value]) -> Option<&[u8]>
     ensures { option_copied result ≡ one_text args.now }
 {
-    Some(text_of(only_of(args)?)?.bytes())
+    Some(only_of(args)?.as_text()?.bytes())
 }
 
 /// Two arguments.
@@ -89,7 +40,7 @@ pub(crate) fn two_texts(args: &[Value]) -> Option<(&[u8], &[u8])>
     ensures { option_map (λ pair. (pair.0.now, pair.1.now)) result ≡ two_texts args.now }
 {
     let (first, second) = pair_of(args)?;
-    Some((text_of(first)?.bytes(), text_of(second)?.bytes()))
+    Some((first.as_text()?.bytes(), second.as_text()?.bytes()))
 }
 
 /// Two arguments, or three.
@@ -105,20 +56,20 @@ pub(crate) fn two_or_three(args: &[Value]) -> Option<(&Value, &Value, Option<&Va
 
 /// The number that an argument is which may be left out.
 pub(crate) fn optional_number(value: Option<&Value>) -> Option<Option<i64>>
-    ensures { result ≡ optional_of number_of (option_copied value.entry) }
+    ensures { result ≡ optional_of number_in (option_copied value.entry) }
 {
     match value {
-        Some(value) => Some(Some(number_of(value)?)),
+        Some(value) => Some(Some(value.as_number()?)),
         None => Some(None),
     }
 }
 
 /// The text that an argument is which may be left out.
 pub(crate) fn optional_text(value: Option<&Value>) -> Option<Option<&[u8]>>
-    ensures { option_map option_copied result ≡ optional_of text_of (option_copied value.entry) }
+    ensures { option_map option_copied result ≡ optional_of text_in (option_copied value.entry) }
 {
     match value {
-        Some(value) => Some(Some(text_of(value)?.bytes())),
+        Some(value) => Some(Some(value.as_text()?.bytes())),
         None => Some(None),
     }
 }
@@ -152,9 +103,9 @@ pub(crate) fn texts_of_three<'a>(
         ≡ texts_of_three (first.now, second.now, third.now) }
 {
     Some(ThreeTexts {
-        first: text_of(first)?.bytes(),
-        second: text_of(second)?.bytes(),
-        third: text_of(third)?.bytes(),
+        first: first.as_text()?.bytes(),
+        second: second.as_text()?.bytes(),
+        third: third.as_text()?.bytes(),
     })
 }
 

@@ -3,13 +3,12 @@ ghost use Rattle.std.specs.Prelude.{◌≡◌, ◌<◌, ◌^◌, ◌++◌, ◌�
 ghost use Rattle.std.specs.List.{list_any, list_all};
 ghost use Rattle.std.specs.Option.{option_map};
 ghost use Rattle.edge_fields.specs.declared.value.Value.TheVariants as value;
-ghost use Rattle.func_lib.specs.Arguments.{text_of, truth_of, all_of};
+ghost use Rattle.edge_fields.specs.Values.{text_in, truth_in};
+ghost use Rattle.func_lib.specs.Arguments.{all_of};
 ghost use Rattle.func_lib.specs.Arrays.{any_of, every_of, size_of, len_of, has_key_of, has_text, has_number, has_value_of};
 ghost use Rattle.func_lib.specs.Arrays.{pieces_between, split_of, after_separators, joined, array_and_text, join_of};
 
-use crate::arguments::{
-    entries_of, items_of, number_of, only_of, pair_of, text_of, truth_of, two_texts,
-};
+use crate::arguments::{only_of, pair_of, two_texts};
 use edge_base::{Memory, Text, TextBuilder};
 use edge_fields::{Value, Values};
 use memchr::memmem;
@@ -18,11 +17,11 @@ use std::alloc::Global;
 
 /// Whether some of these truth values is true.
 fn some_truth(values: &[Value]) -> Option<bool>
-    ensures { result ≡ option_map (list_any (λ truth. truth)) (all_of truth_of values.now) }
+    ensures { result ≡ option_map (list_any (λ truth. truth)) (all_of truth_in values.now) }
 {
     let mut found = false;
     for value in values {
-        let truth = truth_of(value)?;
+        let truth = value.as_truth()?;
         found = found || truth;
     }
     Some(found)
@@ -30,11 +29,11 @@ fn some_truth(values: &[Value]) -> Option<bool>
 
 /// Whether each of these truth values is true.
 fn every_truth(values: &[Value]) -> Option<bool>
-    ensures { result ≡ option_map (list_all (λ truth. truth)) (all_of truth_of values.now) }
+    ensures { result ≡ option_map (list_all (λ truth. truth)) (all_of truth_in values.now) }
 {
     let mut so_far = true;
     for value in values {
-        let truth = truth_of(value)?;
+        let truth = value.as_truth()?;
         so_far = so_far && truth;
     }
     Some(so_far)
@@ -44,14 +43,14 @@ fn every_truth(values: &[Value]) -> Option<bool>
 pub(crate) fn any(args: &[Value]) -> Option<Value>
     ensures { result ≡ any_of args.now }
 {
-    Some(Value::Bool(some_truth(items_of(only_of(args)?)?)?))
+    Some(Value::Bool(some_truth(only_of(args)?.as_items()?)?))
 }
 
 /// `all(truths)`. Takes no memory.
 pub(crate) fn all(args: &[Value]) -> Option<Value>
     ensures { result ≡ every_of args.now }
 {
-    Some(Value::Bool(every_truth(items_of(only_of(args)?)?)?))
+    Some(Value::Bool(every_truth(only_of(args)?.as_items()?)?))
 }
 
 /// How many bytes a text has, or elements an array.
@@ -78,18 +77,18 @@ pub(crate) fn has_key(args: &[Value]) -> Option<Value>
     ensures { result ≡ has_key_of args.now }
 {
     let (map, key) = pair_of(args)?;
-    let map = entries_of(map)?;
-    Some(Value::Bool(map.get(text_of(key)?).is_some()))
+    let map = map.as_map()?;
+    Some(Value::Bool(map.get(key.as_text()?).is_some()))
 }
 
 /// Whether one of some texts is equal to a text.
 fn has_text(items: &[Value], value: &Value) -> Option<bool>
     ensures { result ≡ has_text items.now value.now }
 {
-    let text = text_of(value)?;
+    let text = value.as_text()?;
     let mut found = false;
     for item in items {
-        let other = text_of(item)?;
+        let other = item.as_text()?;
         found = found || text.bytes() == other.bytes();
     }
     Some(found)
@@ -99,10 +98,10 @@ fn has_text(items: &[Value], value: &Value) -> Option<bool>
 fn has_number(items: &[Value], value: &Value) -> Option<bool>
     ensures { result ≡ has_number items.now value.now }
 {
-    let number = number_of(value)?;
+    let number = value.as_number()?;
     let mut found = false;
     for item in items {
-        let other = number_of(item)?;
+        let other = item.as_number()?;
         found = found || number == other;
     }
     Some(found)
@@ -113,7 +112,7 @@ pub(crate) fn has_value(args: &[Value]) -> Option<Value>
     ensures { result ≡ has_value_of args.now }
 {
     let (array, value) = pair_of(args)?;
-    let items = items_of(array)?;
+    let items = array.as_items()?;
     match has_text(items, value) {
         Some(found) => Some(Value::Bool(found)),
         None => Some(Value::Bool(has_number(items, value)?)),
@@ -165,10 +164,10 @@ fn push_after(
     values: &[Value],
 ) -> Result<Option<()>, Memory>
     ensures { IfOk result (λ found. option_map (λ _. text.new) found
-        ≡ option_map (λ parts. text.old ++ after_separators separator.now parts) (all_of text_of values.now)) }
+        ≡ option_map (λ parts. text.old ++ after_separators separator.now parts) (all_of text_in values.now)) }
 {
     for value in values {
-        let Some(part) = text_of(value) else {
+        let Some(part) = value.as_text() else {
             return Ok(None);
         };
         text.push(separator)?;
@@ -179,13 +178,13 @@ fn push_after(
 
 /// Texts with a separator between each two.
 fn joined(alloc: Global, separator: &[u8], values: &[Value]) -> Result<Option<Text>, Memory>
-    ensures { IfOk result (λ found. found ≡ option_map (joined separator.now) (all_of text_of values.now)) }
+    ensures { IfOk result (λ found. found ≡ option_map (joined separator.now) (all_of text_in values.now)) }
 {
     let mut text = TextBuilder::new(alloc);
     let [first, others @ ..] = values else {
         return Ok(Some(text.into_text()));
     };
-    let Some(first) = text_of(first) else {
+    let Some(first) = first.as_text() else {
         return Ok(None);
     };
     text.push(first.bytes())?;
@@ -200,7 +199,7 @@ fn array_and_text(args: &[Value]) -> Option<(&[Value], &[u8])>
     ensures { option_map (λ found. (found.0.now, found.1.now)) result ≡ array_and_text args.now }
 {
     let (array, text) = pair_of(args)?;
-    Some((items_of(array)?, text_of(text)?.bytes()))
+    Some((array.as_items()?, text.as_text()?.bytes()))
 }
 
 /// `join(texts, separator)`

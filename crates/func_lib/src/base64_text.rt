@@ -4,7 +4,7 @@ ghost use Rattle.std.specs.Option.{option_map};
 ghost use Rattle.base64.specs.GeneralPurpose.{encode_of};
 ghost use Rattle.func_lib.specs.Base64.{engine_of, text_and_flags, encode_base64_of, decoded, decode_base64_of};
 
-use crate::arguments::{one_or_two, one_text, optional_text, text_of};
+use crate::arguments::{one_or_two, one_text, optional_text};
 use base64::DecodeAllocError;
 use base64::engine::general_purpose::{STANDARD, STANDARD_NO_PAD, URL_SAFE, URL_SAFE_NO_PAD};
 use edge_base::{Memory, Text};
@@ -34,7 +34,7 @@ fn text_and_flags(args: &[Value]) -> Option<(&[u8], &[u8])>
     ensures { option_map (λ found. (found.0.now, found.1.now)) result ≡ text_and_flags args.now }
 {
     let (text, flags) = one_or_two(args)?;
-    let text = text_of(text)?.bytes();
+    let text = text.as_text()?.bytes();
     match optional_text(flags)? {
         Some(flags) => Some((text, flags)),
         None => Some((text, &[])),

@@ -5,7 +5,6 @@ ghost use Rattle.serde_json.specs.Errors.{IsMemory};
 ghost use Rattle.serde_json.specs.View.{view};
 ghost use Rattle.func_lib.specs.Json.{json_of, member_of, element_of, step_of, found_at, text_and_keys, lookup_json_string_of, lookup_json_integer_of};
 
-use crate::arguments::text_of;
 use edge_base::{Memory, Text};
 use edge_fields::Value;
 use serde_json::{Category, Error, Value as Json};
@@ -85,7 +84,7 @@ fn text_and_keys(args: &[Value]) -> Option<(&[u8], &[Value])>
     if keys.is_empty() || 8 < keys.len() {
         return None;
     }
-    Some((text_of(text)?.bytes(), keys))
+    Some((text.as_text()?.bytes(), keys))
 }
 
 /// `lookup_json_string(text, key, ..)`

@@ -2,7 +2,8 @@
 ghost use Rattle.std.specs.Prelude.{◌≡◌, IfOk};
 ghost use Rattle.std.specs.Option.{option_map, option_copied};
 ghost use Rattle.text_match.specs.Patterns.{first_match, replaced};
-ghost use Rattle.func_lib.specs.Replacing.{first_takes, TakesAreFirst, strict_of, wildcard_arguments, wild_of, filled_or, wildcard_replace_of};
+ghost use Rattle.text_match.specs.Takes.{first_takes, TakesAreFirst};
+ghost use Rattle.func_lib.specs.Replacing.{strict_of, wildcard_arguments, wild_of, filled_or, wildcard_replace_of};
 ghost use Rattle.func_lib.specs.Replacing.{regex_replace_of};
 
 use crate::arguments::{ThreeTexts, optional_text, texts_of_three, three_texts};
@@ -23,7 +24,7 @@ fn wild_of(alloc: Global, pattern: &[u8]) -> Result<Option<Wild>, Memory>
 }
 
 /// The first takes of a wildcard in a text.
-#[tactic(auto, using(crate::proofs::TakeLemmas::takes_found))]
+#[tactic(auto, using(text_match::proofs::TakeLemmas::takes_found))]
 fn first_takes(
     alloc: Global,
     wild: &Wild,

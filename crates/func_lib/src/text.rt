@@ -7,9 +7,7 @@ ghost use Rattle.func_lib.specs.Texts.{lower_of, upper_of, place_in, end_in, par
 ghost use Rattle.func_lib.specs.Texts.{starts_with_of, ends_with_of, signed, truth_word, string_of, to_string_of, written_of, concat_of};
 ghost use Rattle.func_lib.specs.Arguments.{all_of};
 
-use crate::arguments::{
-    number_of, one_text, only_of, optional_number, text_of, two_or_three, two_texts,
-};
+use crate::arguments::{one_text, only_of, optional_number, two_or_three, two_texts};
 use edge_base::{Memory, Text, TextBuilder, print_addr};
 use edge_fields::Value;
 use std::alloc::Global;
@@ -89,8 +87,8 @@ fn text_and_places(args: &[Value]) -> Option<(&[u8], i64, Option<i64>)>
     ensures { option_map (λ found. (found.0.now, found.1, found.2)) result ≡ text_and_places args.now }
 {
     let (text, start, end) = two_or_three(args)?;
-    let text = text_of(text)?.bytes();
-    let start = number_of(start)?;
+    let text = text.as_text()?.bytes();
+    let start = start.as_number()?;
     Some((text, start, optional_number(end)?))
 }
 

@@ -1,5 +1,5 @@
 -- What named lists have, and which can't be built.
-use Rattle.std.specs.Prelude.{◌≡◌, ◌≢◌, ℕ, ◌<◌, ◌≤◌, Bool, true, false, IsTrue, List, length, take, slice_index_or}
+use Rattle.std.specs.Prelude.{◌≡◌, ◌≢◌, ℕ, ◌<◌, ◌≤◌, Bool, true, false, IsTrue, List, length, take, slice_index_or, Result, Err}
 use Rattle.std.specs.List.{list_any, All, Any, HoldsAt}
 use Rattle.std.specs.Str.{bytes_eq}
 use Rattle.edge_base.specs.declared.address.Addr.{Addr}
@@ -66,6 +66,14 @@ pub record IsFirstList (Fault : List ListPart → ListPart → Type 0) (parts : 
   pub within : list < length parts
   pub before : AreFineBefore parts list
   pub here : (d : ListPart) → Fault (take list parts) (slice_index_or parts list d)
+
+-- an answer of this cause names the first list with a fault, which is this one
+abbrev pub NamesFirstList : {A : Type 0} → (ℕ → ListFault) → (List ListPart → ListPart → Type 0) → List ListPart → Result A ListFault → Type 0
+NamesFirstList cause Fault parts answer = (list : ℕ) → answer ≡ Err (cause list) → IsFirstList Fault parts list
+
+-- an answer of this cause names the first list with a bad item, and its first bad item
+abbrev pub NamesFirstItem : {A : Type 0} → (ℕ → ℕ → ListFault) → List ListPart → Result A ListFault → Type 0
+NamesFirstItem cause parts answer = (list at : ℕ) → answer ≡ Err (cause list at) → IsFirstList (HasBadItem at) parts list
 
 -- what a fault says of the lists; want of memory says nothing
 abbrev pub IsListFault : List ListPart → ListFault → Type 0

@@ -1,7 +1,7 @@
 ghost use Rattle.std.specs.Prelude.{◌≡◌, ◌↔◌, ℕ, ◌<◌, ◌^◌, IsTrue, length, IfOk, Err};
 ghost use Rattle.std.specs.List.{All, AllZip, HoldsAt, IsDistinct};
 ghost use Rattle.std.specs.Str.{bytes_eq};
-ghost use Rattle.list_store.specs.Parts.{IsListKind, IsListOf, IsRepeated, HasTooMany, HasBadItem, IsFirstList, AreFineBefore, has_text, HasAddr, ListFaultsAreUnique};
+ghost use Rattle.list_store.specs.Parts.{IsListKind, IsListOf, IsRepeated, HasTooMany, NamesFirstList, NamesFirstItem, AreFineBefore, has_text, HasAddr, ListFaultsAreUnique};
 ghost use Rattle.list_store.specs.Listed.{names_of, CanBeTold};
 ghost use Rattle.list_store.specs.Members.{AreMembersOf};
 
@@ -37,9 +37,9 @@ fn members_of(alloc: Global, parts: &[ListPart]) -> Result<Vec<Members>, ListFau
     requires kinds { All (λ part. IsListKind part.kind) parts.now }
     ensures ok { IfOk result (λ made. AllZip AreMembersOf parts.now made.items) }
     ensures fine { IfOk result (λ _. AreFineBefore parts.now (length parts.now)) }
-    ensures duplicate_list { (list : ℕ) → result ≡ Err (ListFault.DuplicateList list) → IsFirstList IsRepeated parts.now list }
-    ensures too_many_items { (list : ℕ) → result ≡ Err (ListFault.TooManyItems list) → IsFirstList HasTooMany parts.now list }
-    ensures bad_list_item { (list at : ℕ) → result ≡ Err (ListFault.BadListItem list at) → IsFirstList (HasBadItem at) parts.now list }
+    ensures duplicate_list { NamesFirstList ListFault.DuplicateList IsRepeated parts.now result }
+    ensures too_many_items { NamesFirstList ListFault.TooManyItems HasTooMany parts.now result }
+    ensures bad_list_item { NamesFirstItem ListFault.BadListItem parts.now result }
 {
     let mut members = Vec::new(alloc);
     for part in parts {
@@ -58,9 +58,9 @@ impl Lists {
         requires kinds { All (λ part. IsListKind part.kind) parts }
         ensures ok { IfOk result (λ lists. lists ≡ parts) }
         ensures fine { IfOk result (λ _. AreFineBefore parts (length parts)) }
-        ensures duplicate_list { (list : ℕ) → result ≡ Err (ListFault.DuplicateList list) → IsFirstList IsRepeated parts list }
-        ensures too_many_items { (list : ℕ) → result ≡ Err (ListFault.TooManyItems list) → IsFirstList HasTooMany parts list }
-        ensures bad_list_item { (list at : ℕ) → result ≡ Err (ListFault.BadListItem list at) → IsFirstList (HasBadItem at) parts list }
+        ensures duplicate_list { NamesFirstList ListFault.DuplicateList IsRepeated parts result }
+        ensures too_many_items { NamesFirstList ListFault.TooManyItems HasTooMany parts result }
+        ensures bad_list_item { NamesFirstItem ListFault.BadListItem parts result }
     {
         let members = members_of(alloc, parts.as_slice())?;
         Ok(Lists { parts, members })

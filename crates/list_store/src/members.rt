@@ -1,8 +1,6 @@
-ghost use Rattle.std.specs.Prelude.{◌≡◌, ℕ, ◌<◌, ◌^◌, List, length, IfOk};
-ghost use Rattle.std.specs.List.{list_any};
-ghost use Rattle.std.specs.Str.{bytes_eq};
-ghost use Rattle.list_store.specs.Parts.{is_named, has_text, IsListKind};
-ghost use Rattle.list_store.specs.Members.{ReadsAddrs, Makes};
+ghost use Rattle.std.specs.Prelude.{◌≡◌, ◌<◌, ◌^◌, length, IfOk};
+ghost use Rattle.list_store.specs.Parts.{is_named, IsListKind};
+ghost use Rattle.list_store.specs.Members.{AreKeysOf, ReadsAddrs, Makes};
 
 use crate::part::{ListFault, ListPart};
 use addr_set::{AddrSet, ItemFault, parse_items};
@@ -30,7 +28,7 @@ fn is_named(parts: &[ListPart], name: &[u8]) -> bool
 
 /// The texts, each once.
 fn texts_of(alloc: Global, items: &[Text]) -> Result<HashSet<Vec<u8>>, Memory>
-    ensures { IfOk result (λ set. (text : List ℕ) → list_any (λ key. bytes_eq text key.items) set.keys ≡ has_text items.now text) }
+    ensures { IfOk result (λ set. AreKeysOf set.keys items.now) }
 {
     let mut set = HashSet::new(alloc);
     for item in items {

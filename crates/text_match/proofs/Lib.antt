@@ -1,7 +1,9 @@
 pub mod BorderLemmas
 pub mod Crosses
+pub mod MatchingLemmas
 pub mod NeedleLemmas
 pub mod PatternLemmas
 pub mod Pieces
 pub mod SplitLemmas
+pub mod TakeLemmas
 pub mod TurnLemmas

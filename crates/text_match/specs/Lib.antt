@@ -1,7 +1,9 @@
 pub mod Borders
 pub mod Splits
 pub mod Marks
+pub mod Matching
 pub mod Patterns
 pub mod Replacement
 pub mod Regexes
+pub mod Takes
 pub mod Wildcards

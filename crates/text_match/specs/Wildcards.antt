@@ -1,16 +1,17 @@
--- Wildcards: how a pattern is read, what it matches, and what its stars stand for. 42 is `*`, and 92 is `\`.
+-- Wildcards: how a pattern is read, what it matches, and what its stars stand for.
 use Rattle.std.specs.Prelude.{◌≡◌, ℕ, ◌<◌, Bool, if◌then◌else◌, ◌==◌, ◌&&◌, ◌||◌, Option, None, Some, List, [], ◌∷◌, ◌++◌, length, map, ◌⊎◌, MatchOption}
 use Rattle.std.specs.Char.{to_ascii_lowercase}
+use Rattle.edge_base.specs.Bytes.{star, backslash}
 use Rattle.text_match.specs.declared.reading.WildFault.{WildFault}
 use Rattle.text_match.specs.declared.reading.WildFault.TheVariants.{DoubleStar, BadEscape}
 
 -- the first fault of a pattern: two stars in a row, or a `\` that escapes neither `*` nor `\`
 unfoldable pub fault_of : List ℕ → Option WildFault
 fault_of [] = None
-fault_of (byte ∷ []) = if byte == 92 then Some BadEscape else None
+fault_of (byte ∷ []) = if byte == backslash then Some BadEscape else None
 fault_of (byte ∷ next ∷ rest) =
-    if byte == 92 then (if next == 42 || next == 92 then fault_of rest else Some BadEscape)
-    else if byte == 42 && next == 42 then Some DoubleStar
+    if byte == backslash then (if next == star || next == backslash then fault_of rest else Some BadEscape)
+    else if byte == star && next == star then Some DoubleStar
     else fault_of (next ∷ rest)
 
 -- the pattern has this fault first
@@ -25,10 +26,10 @@ onto_first byte (piece ∷ pieces) = (byte ∷ piece) ∷ pieces
 -- the pieces of a pattern without a fault: what stands before, between and after its stars, with escapes taken off
 unfoldable pub pieces_of : List ℕ → List (List ℕ)
 pieces_of [] = [] ∷ []
-pieces_of (byte ∷ []) = if byte == 42 then [] ∷ [] ∷ [] else (byte ∷ []) ∷ []
+pieces_of (byte ∷ []) = if byte == star then [] ∷ [] ∷ [] else (byte ∷ []) ∷ []
 pieces_of (byte ∷ next ∷ rest) =
-    if byte == 92 then onto_first next (pieces_of rest)
-    else if byte == 42 then [] ∷ pieces_of (next ∷ rest)
+    if byte == backslash then onto_first next (pieces_of rest)
+    else if byte == star then [] ∷ pieces_of (next ∷ rest)
     else onto_first byte (pieces_of (next ∷ rest))
 
 -- a text as it is compared: strictly as it stands, else with ASCII case ignored

@@ -36,7 +36,7 @@ use Rattle.type_check.specs.Places.{is_colo, allows_reply, kind_of_sort, tree_at
 use Rattle.type_check.specs.Sorts.{basic_of, one, array, element_sort, array_sort, unpacked_sort, truth_sort, mapped_sort, result_sort}
 use Rattle.type_check.specs.TestKinds.{takes_test, test_sort}
 use Rattle.type_check.specs.Tests.{is_passed}
-use Rattle.type_check.specs.Values.{items_in, items_shown, entries_in, entries_shown, value_of_lit}
+use Rattle.edge_fields.specs.Values.{items_in, items_shown, entries_in, entries_shown, value_of_lit}
 use Rattle.type_check.proofs.Senses.{sense-lit}
 
 -- what is given is of the sort, if there is one

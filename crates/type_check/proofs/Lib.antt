@@ -3,7 +3,6 @@ mod CallLemmas
 mod JudgeForms
 mod KindLemmas
 mod ListLemmas
-mod MatchingLemmas
 mod NamesLemmas
 pub mod NodeSenses
 pub mod Senses

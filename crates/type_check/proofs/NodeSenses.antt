@@ -10,7 +10,7 @@ use Rattle.type_check.specs.declared.node.BuiltTest.{BuiltTest}
 use Rattle.type_check.specs.declared.node.Node.{Node}
 use Rattle.type_check.specs.declared.node.Node.TheVariants as node
 use Rattle.type_check.specs.Trees.{test_of, tree_of}
-use Rattle.type_check.specs.Values.{items_in, value_of_lit}
+use Rattle.edge_fields.specs.Values.{items_in, value_of_lit}
 use Rattle.type_check.specs.Meaning.{Setting, Sense, single, spread, alone, element_at, array_at, is_true, truth, tested, called, sense_of}
 use Rattle.type_check.proofs.NamesLemmas.{field_found, function_found}
 use Rattle.type_check.proofs.NodeTrees.{tree-lit, tree-field, tree-call, tree-at, tree-key, tree-each, tree-test, tree-not, tree-and, tree-xor, tree-or}

@@ -9,7 +9,7 @@ use Rattle.edge_base.specs.declared.expression.Expr.TheOpen as open_expr
 use Rattle.edge_base.specs.declared.expression.Expr.TheFolds as folds
 use Rattle.edge_fields.specs.Fields.{field_of}
 use Rattle.type_check.specs.NamesFound.{field_of_name, function_of_name}
-use Rattle.type_check.specs.Values.{items_in, value_of_lit}
+use Rattle.edge_fields.specs.Values.{items_in, value_of_lit}
 use Rattle.type_check.specs.Meaning.{Setting, Sense, single, spread, alone, element_at, array_at, is_true, truth, tested, called, sense_step, sense_of}
 
 module _ (s : Setting) where

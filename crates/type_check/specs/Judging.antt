@@ -1,9 +1,11 @@
 -- What the walk over an expression tells of it.
-use Rattle.std.specs.Prelude.{◌≡◌, ℕ, Bool, true, false, ◌⊎◌, List, [], ◌∷◌, ◌++◌, map, Option, None, Some, Result, Ok, Err}
+use Rattle.std.specs.Prelude.{◌≡◌, ℕ, ℤ, Bool, true, false, ◌⊎◌, List, [], ◌∷◌, ◌++◌, map, Option, None, Some, Result, Ok, Err}
 use Rattle.std.specs.List.{list_all}
 use Rattle.std.specs.Option.{option_or}
+use Rattle.edge_base.specs.declared.expression.Lit.{Lit}
 use Rattle.edge_base.specs.declared.expression.Test.{Test}
 use Rattle.edge_base.specs.declared.expression.Expr.TheVariants as expr
+use Rattle.edge_base.specs.declared.expression.Expr.TheOpen as open_expr
 use Rattle.edge_fields.specs.declared.function_id.FunctionId.{FunctionId}
 use Rattle.type_check.specs.declared.fault.TypeCause.{TypeCause}
 use Rattle.type_check.specs.declared.fault.TypeCause.TheVariants as cause
@@ -25,7 +27,7 @@ use Rattle.type_check.specs.declared.judging.JudgedAll.{JudgedAll}
 use Rattle.type_check.specs.declared.node.Node.{Node}
 use Rattle.type_check.specs.declared.sort.Mark.{Mark}
 use Rattle.type_check.specs.declared.sort.Stand.{Stand}
-use Rattle.type_check.specs.Checking.{Finding, Report, Judge, is_clean, look_all, sorts_of, judge_of, IsAnswer, literal_of, call_sort, call_pattern, wildcard_causes, test_pattern}
+use Rattle.type_check.specs.Checking.{Finding, Report, Judge, is_clean, look_all, sorts_of, chain_judge, judge_step, judge_of, IsAnswer, literal_of, call_sort, call_pattern, wildcard_causes, test_pattern}
 use Rattle.type_check.specs.Sorts.{suits}
 use Rattle.type_check.specs.TestKinds.{head_of, text_causes, test_sort}
 use Rattle.type_check.specs.Trees.{tree_of, are_placed, test_of, is_placed}
@@ -116,9 +118,12 @@ chain_expr chain.And members = expr.And members
 chain_expr chain.Xor members = expr.Xor members
 chain_expr chain.Or members = expr.Or members
 
+-- the named lists of a node are in place where those of its parts are
+abbrev pub IsPlacedAs : Node → List Node → Type 0
+IsPlacedAs n nodes = (lists : List (List ℕ × Basic)) → are_placed lists n ≡ list_all (are_placed lists) nodes
+
 abbrev pub IsChainNode : Chain → Result (List Node) Fault → Result Node Fault → Type 0
-IsChainNode chain (Ok nodes) (Ok n) =
-    (tree_of n ≡ chain_expr chain (map tree_of nodes)) × ((lists : List (List ℕ × Basic)) → are_placed lists n ≡ list_all (are_placed lists) nodes)
+IsChainNode chain (Ok nodes) (Ok n) = (tree_of n ≡ chain_expr chain (map tree_of nodes)) × IsPlacedAs n nodes
 IsChainNode chain (Err refused) (Err other) = other ≡ refused
 IsChainNode chain nodes made = ⊥
 
@@ -195,3 +200,41 @@ IsTested lists t (Ok of) place m answer = IsTestedOk lists t of place m answer
 IsTested lists t (Err parts) place m (Ok told) = ⊥
 IsTested lists t (Err parts) place m (Err answer) =
     (answer ≡ fault.Memory) ⊎ IsBeforeParts (head_of (text_causes t)) (test_pattern t) m parts answer
+
+-- ---- what the walk tells of each node, from what was judged of its parts
+
+abbrev pub TellsLit : Lit → Stand → Mark → Result Judged TypeFault → Type 0
+TellsLit l place m answer =
+    (lists : List (List ℕ × Basic)) (replies : Bool) → Tells lists (judge_step lists replies (open_expr.Lit l)) (expr.Lit l) place m answer
+
+abbrev pub TellsField : Bool → List ℕ → Stand → Mark → Result Judged TypeFault → Type 0
+TellsField replies name place m answer =
+    (lists : List (List ℕ × Basic)) → Tells lists (judge_step lists replies (open_expr.Field name)) (expr.Field name) place m answer
+
+abbrev pub TellsAt : List (List ℕ × Basic) → Bool → Expr → ℤ → Stand → Mark → Result Judged TypeFault → Type 0
+TellsAt lists replies of at place m answer =
+    Tells lists (judge_step lists replies (open_expr.At (judge_of lists replies of) at)) (expr.At of at) place m answer
+
+abbrev pub TellsKey : List (List ℕ × Basic) → Bool → Expr → List ℕ → Stand → Mark → Result Judged TypeFault → Type 0
+TellsKey lists replies of key place m answer =
+    Tells lists (judge_step lists replies (open_expr.Key (judge_of lists replies of) key)) (expr.Key of key) place m answer
+
+abbrev pub TellsEach : List (List ℕ × Basic) → Bool → Expr → Stand → Mark → Result Judged TypeFault → Type 0
+TellsEach lists replies of place m answer =
+    Tells lists (judge_step lists replies (open_expr.Each (judge_of lists replies of))) (expr.Each of) place m answer
+
+abbrev pub TellsNot : List (List ℕ × Basic) → Bool → Expr → Stand → Mark → Result Judged TypeFault → Type 0
+TellsNot lists replies of place m answer =
+    Tells lists (judge_step lists replies (open_expr.Not (judge_of lists replies of))) (expr.Not of) place m answer
+
+abbrev pub TellsTest : List (List ℕ × Basic) → Bool → Expr → Test → Stand → Mark → Result Judged TypeFault → Type 0
+TellsTest lists replies of t place m answer =
+    Tells lists (judge_step lists replies (open_expr.Test (judge_of lists replies of) t)) (expr.Test of t) place m answer
+
+abbrev pub TellsCall : List (List ℕ × Basic) → Bool → List ℕ → List Expr → Stand → Mark → Result Judged TypeFault → Type 0
+TellsCall lists replies name args place m answer =
+    Tells lists (judge_step lists replies (open_expr.Call name (map (judge_of lists replies) args))) (expr.Call name args) place m answer
+
+abbrev pub TellsChain : List (List ℕ × Basic) → Bool → Chain → List Expr → Stand → Mark → Result Judged TypeFault → Type 0
+TellsChain lists replies chain members place m answer =
+    Tells lists (chain_judge (map (judge_of lists replies) members)) (chain_expr chain members) place m answer

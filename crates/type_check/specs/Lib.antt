@@ -1,4 +1,3 @@
-pub mod Matching
 pub mod Building
 pub mod Checking
 pub mod Judging
@@ -10,4 +9,3 @@ pub mod Sorts
 pub mod TestKinds
 pub mod Tests
 pub mod Trees
-pub mod Values

@@ -19,7 +19,7 @@ use Rattle.edge_fields.specs.Kinds.{HasKind}
 use Rattle.edge_fields.specs.Names.{function_kind}
 use Rattle.type_check.specs.NamesFound.{field_of_name, function_of_name}
 use Rattle.type_check.specs.Tests.{is_some_and, is_passed}
-use Rattle.type_check.specs.Values.{truth_in, items_in, entries_in, value_of_lit}
+use Rattle.edge_fields.specs.Values.{truth_in, items_in, entries_in, value_of_lit}
 
 -- what an expression is asked in: what functions give of values and which values a named list has, the request and,
 -- where there is one, the reply

@@ -1,5 +1,5 @@
 -- When a test of a value is true.
-use Rattle.std.specs.Prelude.{ℕ, ◌-◌, ◌/◌, ◌^◌, ◌==◌, nat_le, int_le, Bool, true, false, not, ◌&&◌, List, Option, is_some}
+use Rattle.std.specs.Prelude.{ℕ, ◌==◌, int_le, Bool, true, false, not, ◌&&◌, List, Option, is_some}
 use Rattle.std.specs.List.{list_any}
 use Rattle.std.specs.Option.{option_map_or}
 use Rattle.std.specs.Cmp.Lexicographic.{slice_cmp}
@@ -15,11 +15,12 @@ use Rattle.edge_base.specs.declared.expression.Item.{Item}
 use Rattle.edge_base.specs.declared.expression.Item.TheVariants as item
 use Rattle.edge_base.specs.declared.expression.Test.{Test}
 use Rattle.edge_base.specs.declared.expression.Test.TheVariants as test
+use Rattle.edge_base.specs.Ranges.{is_from_to, shares_bits}
 use Rattle.edge_fields.specs.declared.value.Value.{Value}
 use Rattle.text_match.specs.Patterns.{first_match}
 use Rattle.text_match.specs.Wildcards.{pieces_of}
-use Rattle.type_check.specs.Matching.{has_part, is_matched}
-use Rattle.type_check.specs.Values.{text_in, number_in, addr_in}
+use Rattle.text_match.specs.Matching.{has_part, is_matched}
+use Rattle.edge_fields.specs.Values.{text_in, number_in, addr_in}
 
 -- there is one, and it passes
 abbrev pub is_some_and : {A : Type 0} → (A → Bool) → Option A → Bool
@@ -52,18 +53,6 @@ is_ordered o (lit.Text text) v = is_some_and (λ own. is_so o (slice_cmp nat_cmp
 is_ordered o (lit.Num number) v = is_some_and (λ own. is_so o (int_cmp own number)) (number_in v)
 is_ordered o (lit.Addr one) v = is_some_and (λ own. is_so_same o (is_same_addr own one)) (addr_in v)
 is_ordered o (lit.Bool truth) v = false
-
--- whether an address is of the family of two others, and from the first to the last
-abbrev pub is_from_to : Addr → Addr → Addr → Bool
-is_from_to (addr.V4 first) (addr.V4 last) (addr.V4 number) = nat_le first number && nat_le number last
-is_from_to (addr.V6 first) (addr.V6 last) (addr.V6 number) = nat_le first number && nat_le number last
-is_from_to first last other = false
-
--- whether an address is of the family of another, and has the same first bits
-abbrev pub shares_bits : Addr → ℕ → Addr → Bool
-shares_bits (addr.V4 one) bits (addr.V4 number) = number / 2 ^ (32 - bits) == one / 2 ^ (32 - bits)
-shares_bits (addr.V6 one) bits (addr.V6 number) = number / 2 ^ (128 - bits) == one / 2 ^ (128 - bits)
-shares_bits one bits other = false
 
 -- whether a value is one of an item
 abbrev pub is_of_item : Value → Item → Bool

@@ -12,7 +12,8 @@ ghost use Rattle.edge_base.specs.declared.expression.Expr.{Expr};
 ghost use Rattle.type_check.specs.Checking.{Judge, judge, judge_of, judge_step, unpacked_causes, chain_judge, is_regex_replace, literal_of, call_pattern};
 ghost use Rattle.type_check.specs.Sorts.{test_stand, inner};
 ghost use Rattle.type_check.specs.Trees.{tree_of, are_placed};
-ghost use Rattle.type_check.specs.Judging.{Tells, TellsAll, around_node, IsChainNode, IsAround, IsBeforeParts, IsTestNode, IsCallNode, IsCalled, IsTested, Gathers, before_fault, IsEnd, chain_expr};
+ghost use Rattle.type_check.specs.Judging.{Tells, TellsAll, TellsLit, TellsField, TellsAt, TellsKey, TellsEach, TellsNot, TellsTest, TellsCall, TellsChain};
+ghost use Rattle.type_check.specs.Judging.{around_node, IsChainNode, IsPlacedAs, IsAround, IsBeforeParts, IsTestNode, IsCallNode, IsCalled, IsTested, Gathers, before_fault, IsEnd, chain_expr};
 ghost use Rattle.type_check.specs.TestKinds.{list_causes, text_causes, where_so};
 
 use crate::building::{build_test, refusal, test_pattern};
@@ -61,7 +62,7 @@ impl Mark {
 
 /// A literal.
 fn judge_lit(alloc: Global, lit: &Lit, stand: Stand, mark: Mark) -> Result<Judged, TypeFault>
-    ensures { (lists : List (List ℕ × Basic)) (replies : Bool) → Tells lists (judge_step lists replies (open_expr.Lit lit.now)) (expr.Lit lit.now) stand mark result }
+    ensures { TellsLit lit.now stand mark result }
 {
     let sort = Some(Sort::Plain(Kind::One(basic_of(lit))));
     if !suits(stand, sort) {
@@ -90,7 +91,7 @@ fn judge_field(
     stand: Stand,
     mark: Mark,
 ) -> Result<Judged, TypeFault>
-    ensures { (lists : List (List ℕ × Basic)) → Tells lists (judge_step lists replies (open_expr.Field name.now)) (expr.Field name.now) stand mark result }
+    ensures { TellsField replies name.now stand mark result }
 {
     let Some(id) = find_field(name.bytes()) else {
         return Err(mark.fault(TypeCause::UnknownField));
@@ -184,7 +185,7 @@ fn judge_at(
     stand: Stand,
     mark: Mark,
 ) -> Result<Judged, TypeFault>
-    ensures { Tells scheme.now (judge_step scheme.now replies (open_expr.At (judge_of scheme.now replies of.now) at)) (expr.At of.now at) stand mark result }
+    ensures { TellsAt scheme.now replies of.now at stand mark result }
 {
     let inner = mark.inner()?;
     let Judged {
@@ -212,7 +213,7 @@ fn judge_key(
     stand: Stand,
     mark: Mark,
 ) -> Result<Judged, TypeFault>
-    ensures { Tells scheme.now (judge_step scheme.now replies (open_expr.Key (judge_of scheme.now replies of.now) key.now)) (expr.Key of.now key.now) stand mark result }
+    ensures { TellsKey scheme.now replies of.now key.now stand mark result }
 {
     let inner = mark.inner()?;
     let Judged {
@@ -249,7 +250,7 @@ fn judge_each(
     stand: Stand,
     mark: Mark,
 ) -> Result<Judged, TypeFault>
-    ensures { Tells scheme.now (judge_step scheme.now replies (open_expr.Each (judge_of scheme.now replies of.now))) (expr.Each of.now) stand mark result }
+    ensures { TellsEach scheme.now replies of.now stand mark result }
 {
     if is_misplaced(stand) {
         return Err(mark.fault(TypeCause::Misplaced));
@@ -278,7 +279,7 @@ fn judge_not(
     stand: Stand,
     mark: Mark,
 ) -> Result<Judged, TypeFault>
-    ensures { Tells scheme.now (judge_step scheme.now replies (open_expr.Not (judge_of scheme.now replies of.now))) (expr.Not of.now) stand mark result }
+    ensures { TellsNot scheme.now replies of.now stand mark result }
 {
     let inner = mark.inner()?;
     let Judged {
@@ -385,7 +386,7 @@ fn judge_test(
     stand: Stand,
     mark: Mark,
 ) -> Result<Judged, TypeFault>
-    ensures { Tells scheme.now (judge_step scheme.now replies (open_expr.Test (judge_of scheme.now replies of.now) test.now)) (expr.Test of.now test.now) stand mark result }
+    ensures { TellsTest scheme.now replies of.now test.now stand mark result }
 {
     if has_unknown_list(scheme, test) {
         return Err(mark.fault(TypeCause::UnknownList));
@@ -478,7 +479,7 @@ fn judge_call(
     stand: Stand,
     mark: Mark,
 ) -> Result<Judged, TypeFault>
-    ensures { Tells scheme.now (judge_step scheme.now replies (open_expr.Call name.now (map (judge_of scheme.now replies) args.now))) (expr.Call name.now args.now) stand mark result }
+    ensures { TellsCall scheme.now replies name.now args.now stand mark result }
 {
     let Some(id) = find_function(name.bytes()) else {
         return Err(mark.fault(TypeCause::UnknownFunction));
@@ -509,7 +510,7 @@ enum Chain {
 impl Chain {
     fn node(self, members: Nodes) -> Node
         ensures tree { tree_of result ≡ chain_expr self (map tree_of members) }
-        ensures placed { (lists : List (List ℕ × Basic)) → are_placed lists result ≡ list_all (are_placed lists) members }
+        ensures placed { IsPlacedAs result members }
     {
         match self {
             Chain::And => Node::And(members),
@@ -539,7 +540,7 @@ fn judge_chain(
     stand: Stand,
     mark: Mark,
 ) -> Result<Judged, TypeFault>
-    ensures { Tells scheme.now (chain_judge (map (judge_of scheme.now replies) members.now)) (chain_expr chain members.now) stand mark result }
+    ensures { TellsChain scheme.now replies chain members.now stand mark result }
 {
     let inner = mark.inner()?;
     let JudgedAll {

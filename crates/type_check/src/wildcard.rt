@@ -1,6 +1,6 @@
 ghost use Rattle.std.specs.Prelude.{◌≡◌, None, IfOk, OnOk, IsErrOf, ◌↔◌};
 ghost use Rattle.text_match.specs.Wildcards.{fault_of, pieces_of};
-ghost use Rattle.type_check.specs.Matching.{is_matched};
+ghost use Rattle.text_match.specs.Matching.{is_matched};
 
 use edge_base::{Memory, Text};
 use std::alloc::Global;

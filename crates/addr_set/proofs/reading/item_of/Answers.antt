@@ -1,5 +1,5 @@
 use Rattle.std.proofs.lemmas.List.{take_rest}
-use Rattle.addr_set.proofs.ReadingLemmas.{Reads-range, Reads-block, IsNoItem-alone}
+use Rattle.addr_set.proofs.ReadingLemmas.{Reads-range, Reads-block, IsNoItemText-alone}
 use Rattle.addr_set.proofs.reading.item_of.Goals as goal
 
 pub returns-in-Some : goal.returns-in-Some
@@ -13,4 +13,4 @@ returns-in-Some-memchr c =
     Reads-block c.args.text.now c.in_default.ensures c.in-Some-memchr.at c.in-Some-memchr.ensures c.block_of.result (rw take_rest at sides)
 
 pub returns-in-None : goal.returns-in-None
-returns-in-None c = IsNoItem-alone c.args.text.now c.in_default.ensures c.in_default-memchr.ensures c.in-None.ensures
+returns-in-None c = IsNoItemText-alone c.args.text.now c.in_default.ensures c.in_default-memchr.ensures c.in-None.ensures

@@ -1,14 +1,14 @@
 use Rattle.std.proofs.Common.{◌≡◌, [], ◌∷◌, ◌++◌, get_or, sym, subst, ◌∙◌, length-append, arith}
 use Rattle.std.proofs.lemmas.List.Elements.{All-push}
 use Rattle.addr_set.specs.Sets.{IsAddrItem}
-use Rattle.addr_set.specs.ItemTexts.{IsGoodText, IsNoItem, IsLongPrefix, IsBackward}
+use Rattle.addr_set.specs.ItemTexts.{IsGoodText, IsNoItemText, IsLongPrefix, IsBackward}
 use Rattle.addr_set.proofs.ListLemmas.{AllZip-take_more, IsFirstFlaw-next}
 use Rattle.addr_set.proofs.reading.parse_items.Goals as goal
 
 pub returns-in-Err-Address-clause-bad_addr : goal.returns-in-Err-Address-clause-bad_addr
 returns-in-Err-Address-clause-bad_addr c at e =
     let place : c.len-at.result ≡ at = cc in
-    IsFirstFlaw-next IsNoItem c.as_slice-text-items.result.now c.args.texts.now c.loop-text.items c.loop-text.text-index at c.text-item.result c.bytes.result.now
+    IsFirstFlaw-next IsNoItemText c.as_slice-text-items.result.now c.args.texts.now c.loop-text.items c.loop-text.text-index at c.text-item.result c.bytes.result.now
     c.as_slice-text-items.ensures c.loop-text-test.true c.loop-text.invariant.texts c.text-item.is c.bytes.ensures
     (sym place ∙ c.len-at.ensures ∙ c.loop-text.invariant.count) (rw c.in-Err-Address.field-0-is at c.in-Err-Address.ensures)
 

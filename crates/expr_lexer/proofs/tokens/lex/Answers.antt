@@ -2,17 +2,14 @@ use Rattle.std.proofs.Common.{ℕ, ◌<◌, ◌≤◌, List, length, All, sym, �
 use Rattle.std.proofs.lemmas.List.Elements.{All-push}
 use Rattle.edge_base.specs.declared.token.Token.{Token}
 use Rattle.edge_base.specs.Cut.{IsCutBetween, IsFirstFault}
+use Rattle.expr_lexer.specs.Lexed.{IsInside}
 use Rattle.expr_lexer.proofs.CutLemmas.{cut_more_blank, cut_more_token, fault_has_no_cut}
 use Rattle.expr_lexer.proofs.tokens.lex.Goals as goal
 
--- the token ends within the text
-abbrev IsInside : List ℕ → Token → Type 0
-IsInside text token = (token.start < token.end) × (token.end ≤ length text)
-
-pub loop-at-preserved-then-is_blank : goal.loop-at-preserved-then-is_blank
-loop-at-preserved-then-is_blank c = record {
+pub loop-at-preserved-then-is_blank_byte : goal.loop-at-preserved-then-is_blank_byte
+loop-at-preserved-then-is_blank_byte c = record {
   here = omega (arith, c.loop-at-test.true);
-  cut = cut_more_blank c.args.text.now 0 c.loop-at.at c.loop-at.tokens c.loop-at.invariant.cut c.loop-at-test.true (sym c.is_blank.ensures ∙ c.if-is_blank.true);
+  cut = cut_more_blank c.args.text.now 0 c.loop-at.at c.loop-at.tokens c.loop-at.invariant.cut c.loop-at-test.true (sym c.is_blank_byte.ensures ∙ c.if-is_blank_byte.true);
   within = c.loop-at.invariant.within;
 }
 
@@ -22,7 +19,7 @@ returns-in_default-clause-fault c =
       before = c.loop-at.tokens;
       is_cut = c.loop-at.invariant.cut;
       within = c.loop-at-test.true;
-      no_blank = sym c.is_blank.ensures ∙ c.if-is_blank.false;
+      no_blank = sym c.is_blank_byte.ensures ∙ c.if-is_blank_byte.false;
       no_token = c.in_default.ensures;
     } in
     (fault, fault_has_no_cut c.args.text.now c.loop-at.at fault)

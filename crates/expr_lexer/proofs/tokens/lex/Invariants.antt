@@ -1,6 +1,6 @@
-use Rattle.std.proofs.Common.{◌-◌, ◌<◌, ◌≤◌, length, All}
-use Rattle.edge_base.specs.declared.token.Token.{Token}
+use Rattle.std.proofs.Common.{◌-◌, ◌≤◌, length, All}
 use Rattle.edge_base.specs.Cut.{IsCutBetween}
+use Rattle.expr_lexer.specs.Lexed.{IsInside}
 use Rattle.expr_lexer.proofs.tokens.lex.Given as goal
 
 -- the tokens so far cut the text up to here
@@ -8,7 +8,7 @@ abbrev pub invariant-loop-at : goal.invariant-loop-at
 invariant-loop-at l = record {
   here : l.at ≤ length l.text;
   cut : IsCutBetween l.text 0 l.at l.tokens;
-  within : All (λ (token : Token). (token.start < token.end) × (token.end ≤ length l.text)) l.tokens;
+  within : All (IsInside l.text) l.tokens;
 }
 
 abbrev pub decreases-loop-at : goal.decreases-loop-at

@@ -1,8 +1,8 @@
 use Rattle.std.proofs.Common.{◌∙◌, ap}
 use Rattle.std.specs.Bool.{one_answer}
 use Rattle.text_match.specs.Wildcards.{pieces_of}
-use Rattle.type_check.specs.Matching.{is_matched}
-use Rattle.type_check.proofs.MatchingLemmas.{is_matched-Decides}
+use Rattle.text_match.specs.Matching.{is_matched}
+use Rattle.text_match.proofs.MatchingLemmas.{is_matched-Decides}
 use Rattle.type_check.proofs.wildcard.Wildcard.matches.Goals as goal
 
 pub returns : goal.returns

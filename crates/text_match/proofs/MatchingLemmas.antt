@@ -3,17 +3,11 @@ use Rattle.std.proofs.Common.{◌≡◌, ℕ, Bool, true, false, ◌||◌, List,
 use Rattle.std.proofs.lemmas.Bool.{false≢true, or_cases}
 use Rattle.std.proofs.lemmas.Slice.Eq.{bytes_eq-Decides}
 use Rattle.std.proofs.Math.Seq.{take-append_seam, drop-append_seam}
-use Rattle.std.proofs.lemmas.List.{length-map}
-use Rattle.std.specs.Char.{to_ascii_lowercase}
 use Rattle.std.specs.Bool.{Decides}
 use Rattle.std.specs.Option.{option_map_or}
 use Rattle.text_match.specs.Wildcards.{compared, AreTurns, IsMatched}
-use Rattle.type_check.specs.Matching.{has_end, after_piece, are_turns, is_matched}
-
--- what compares equal is as long
-compared-length : (strict : Bool) (xs ys : List ℕ) → compared strict xs ≡ compared strict ys → length xs ≡ length ys
-compared-length true xs ys same = ap length same
-compared-length false xs ys same = sym (length-map xs to_ascii_lowercase) ∙ ap length same ∙ length-map ys to_ascii_lowercase
+use Rattle.text_match.specs.Matching.{has_end, after_piece, are_turns, is_matched}
+use Rattle.text_match.proofs.SplitLemmas.{compared-length}
 
 -- the text is the piece, as it is compared, and then the rest
 record Begins (strict : Bool) (piece text rest : List ℕ) : Type 0 where

@@ -13,11 +13,13 @@ has_end test (byte ∷ text) = test (byte ∷ text) || has_end test text
 abbrev pub has_part : List ℕ → List ℕ → Bool
 has_part text part = has_end (λ rest. starts_with nat_eq rest part) text
 
+-- whether a text begins with a piece
+abbrev pub stands_at_front : Bool → List ℕ → List ℕ → Bool
+stands_at_front strict piece text = bytes_eq (compared strict (take (length piece) text)) (compared strict piece)
+
 -- what stands after the piece in a text that begins with it
 abbrev pub after_piece : Bool → List ℕ → List ℕ → Option (List ℕ)
-after_piece strict piece text =
-    if bytes_eq (compared strict (take (length piece) text)) (compared strict piece) then Some (drop (length piece) text)
-    else None
+after_piece strict piece text = if stands_at_front strict piece text then Some (drop (length piece) text) else None
 
 -- whether the text is a take and then a piece, for each of the pieces by turns, up to its end
 abbrev pub are_turns : Bool → List (List ℕ) → List ℕ → Bool

@@ -7,7 +7,8 @@ use Rattle.text_match.specs.Splits.{HasTurns, AreFirstTurns}
 use Rattle.text_match.specs.Wildcards.{IsSplit, AreTurns, IsMatched, IsNoLater, First, compared}
 use Rattle.text_match.proofs.SplitLemmas.{compared-length, take_front, drop_front}
 use Rattle.text_match.proofs.TurnLemmas.{front_needed, front_takes, first_is_unique, no_pieces, first_of_none}
-use Rattle.func_lib.specs.Replacing.{stands_at_front, empty_take, shortest_take, first_turns, first_takes, TakesAreFirst}
+use Rattle.text_match.specs.Matching.{stands_at_front}
+use Rattle.text_match.specs.Takes.{empty_take, shortest_take, first_turns, first_takes, TakesAreFirst}
 
 -- a text that begins with a piece is split there
 split_at_front : (strict : Bool) (piece text : List ℕ) → stands_at_front strict piece text ≡ true → IsSplit strict piece text [] (drop (length piece) text)
