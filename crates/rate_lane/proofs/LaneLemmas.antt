@@ -1,9 +1,9 @@
 -- What is kept of a lane's keys, as steps are taken and dead keys are dropped.
-use Rattle.std.proofs.Common.{◌≡◌, ◌⊎◌, inl, inr, map, ℕ, suc, ◌+◌, ◌<◌, ◌≤◌, max, Bool, true, false, cond, not, ◌&&◌, ◌||◌, ◌==◌, nat_lt, nat_le, List, [], ◌∷◌, ◌++◌, length, filter, fold, get_or, Option, Some, None, is_some, refl, sym, ap, ◌∙◌, subst, arith, add-zero, true≢false, lt-ltb, le-leb, leb-true, eq-eqb}
-use Rattle.std.specs.List.{list_any, IsDistinct}
-use Rattle.std.specs.Set.{is_member, distinct_count}
-use Rattle.std.specs.Map.{lookup, keys_of, set_value}
-use Rattle.std.proofs.lemmas.Bool.{false_from_ne_true, or_parts, cases_lt}
+use Rattle.std.proofs.Common.{◌≡◌, inl, map, ℕ, ◌+◌, ◌<◌, ◌≤◌, Bool, true, false, cond, not, ◌&&◌, ◌||◌, ◌==◌, nat_lt, nat_le, List, [], ◌∷◌, ◌++◌, length, filter, Option, Some, None, is_some, refl, sym, ap, ◌∙◌, subst, arith, add-zero, true≢false, le-leb, leb-true, eq-eqb}
+use Rattle.std.specs.List.{IsDistinct}
+use Rattle.std.specs.Set.{is_member}
+use Rattle.std.specs.Map.{keys_of}
+use Rattle.std.proofs.lemmas.Bool.{false_from_ne_true, or_parts}
 use Rattle.std.proofs.lemmas.List.{length-map}
 use Rattle.std.proofs.lemmas.Map.{lookup-set_value}
 use Rattle.std.proofs.lemmas.Map.Made.{is_some-lookup, length-from_keys}
@@ -20,11 +20,11 @@ use Rattle.rate_plain.specs.declared.entry.Ask.{Ask}
 use Rattle.rate_plain.specs.declared.entry.Entry.{Entry}
 use Rattle.rate_plain.specs.declared.entry.Answer.{Answer}
 use Rattle.rate_plain.specs.declared.entry.Answer.TheVariants.{Pass, Over, Full}
-use Rattle.rate_lane.specs.KeyState.{dead_state, IsStateOf, answer_within, entry_at, StepsKey}
+use Rattle.rate_lane.specs.KeyState.{IsStateOf, answer_within, entry_at}
 use Rattle.rate_lane.specs.Index.{Entries, state_of, live_at, IsKept, KeepsAll}
-use Rattle.rate_lane.specs.Stepping.{IsReadyFor, AreLive, with_step, StepsState, AddsState, StepsAll}
+use Rattle.rate_lane.specs.Stepping.{AreLive, with_step, StepsState, AddsState, StepsAll}
 use Rattle.rate_lane.specs.declared.key_state.KeyState.{KeyState}
-use Rattle.rate_lane.proofs.KeyStateLemmas.{not_lt, ascends_to, is_live_push, fresh_state}
+use Rattle.rate_lane.proofs.KeyStateLemmas.{is_live_push, fresh_state}
 
 -- a step of another key changes nothing of what is kept of this one
 other_kept : (kept : Option KeyState) (q : KeyParts) (at : ℕ) (history : List Entry) (entry : Entry) → same_key q entry.key ≡ false → IsKept kept q at history → IsKept kept q at (history ++ entry ∷ [])
@@ -83,7 +83,7 @@ pub only_lane : (q : KeyParts) → lane_of_key 1 q ≡ 0
 only_lane q = mod-one (fnv1a64_of (key_bytes q))
 
 -- where the kept keys are the live ones, there are as many of them
-live_are_kept : (entries : Entries) (at lane : ℕ) (history : List Entry) → lane ≡ 0 → IsDistinct same_key (keys_of entries) → AreLive entries at → KeepsAll entries at history → length entries ≡ live_count 1 lane at history
+pub live_are_kept : (entries : Entries) (at lane : ℕ) (history : List Entry) → lane ≡ 0 → IsDistinct same_key (keys_of entries) → AreLive entries at → KeepsAll entries at history → length entries ≡ live_count 1 lane at history
 live_are_kept entries at lane history only unique live was =
     sym (length-map entries (λ e. e.0))
     ∙ length-from_keys same_key-equiv (keys_of entries) (filter (λ key. is_live key at history) (map (λ e. e.key) (entries_in 1 lane history))) unique same

@@ -6,3 +6,4 @@ pub mod SteppingLemmas
 pub mod LaneLemmas
 pub mod PreparedLemmas
 pub mod LaneStepLemmas
+pub mod LiveKeysLemmas

@@ -3,7 +3,7 @@ use Rattle.std.specs.Prelude.{◌≡◌, ◌⊎◌, ℕ, Bool, true, false, List
 use Rattle.std.specs.declared.result.Result.{Result}
 use Rattle.edge_base.specs.declared.refusal.Memory.{Memory}
 use Rattle.rate_plain.specs.KeyParts.{KeyParts}
-use Rattle.rate_plain.specs.Window.{latest_of, moment_of, is_live, answer_of}
+use Rattle.rate_plain.specs.Window.{latest_of, moment_of, is_live, live_count, answer_of}
 use Rattle.rate_plain.specs.History.{entry_of}
 use Rattle.rate_plain.specs.declared.entry.Ask.{Ask}
 use Rattle.rate_plain.specs.declared.entry.Answer.{Answer}
@@ -46,3 +46,8 @@ SparesMemory lane ask result =
     (ask.adds ≡ false)
     ⊎ ((is_live ask.key (moment_of 1 history ask.key ask.asked) history ≡ true) × (has_room_for lane ask.key ≡ true)) →
     IsOk result
+
+-- so many keys are live at the later of a moment and the lane's own
+abbrev pub CountsLive : Lane → ℕ → ℕ → Type 0
+CountsLive lane at result =
+    (history : List Entry) → IsLaneOf lane history → result ≡ live_count 1 0 (latest_of at history) history

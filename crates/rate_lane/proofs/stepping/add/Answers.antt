@@ -1,10 +1,9 @@
-use Rattle.std.proofs.Common.{◌≡◌, true, sym, ap, ◌∙◌, subst, set}
+use Rattle.std.proofs.Common.{◌≡◌, true, sym, ◌∙◌, subst, set}
 use Rattle.indexmap.specs.IndexMap.{insert_entry}
 use Rattle.rate_plain.specs.contracts.key.KeyPartialEq.TheImpl.{eq-value}
 use Rattle.rate_lane.specs.KeyState.{StepsKey}
 use Rattle.rate_lane.proofs.IndexLemmas.{added_ordered}
 use Rattle.rate_lane.proofs.KeyEqLemmas.{inserted-is}
-use Rattle.rate_lane.proofs.PreparedLemmas.{swept_keeps}
 use Rattle.rate_lane.proofs.SteppingLemmas.{from_ok}
 use Rattle.rate_lane.proofs.stepping.add.Goals as goal
 

@@ -1,9 +1,8 @@
-use Rattle.std.proofs.Common.{◌≡◌, ◌≤◌, ◌<◌, length, Some, None, sym, ap, ◌∙◌, subst, subst₂, arith}
+use Rattle.std.proofs.Common.{◌≤◌, ◌<◌, length, ap, subst, subst₂, arith}
 use Rattle.std.specs.List.{IsDistinct}
 use Rattle.std.specs.Map.{keys_of}
 use Rattle.indexmap.specs.IndexMap.{spare}
 use Rattle.rate_plain.specs.Keys.{same_key}
-use Rattle.rate_lane.specs.Index.{state_of, IsOrdered}
 use Rattle.rate_lane.specs.Stepping.{IsAtHand, AddsState}
 use Rattle.rate_lane.proofs.IndexLemmas.{grown_ordered}
 use Rattle.rate_lane.proofs.KeyEqLemmas.{unique-is}

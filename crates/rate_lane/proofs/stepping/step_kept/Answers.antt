@@ -1,4 +1,4 @@
-use Rattle.std.proofs.Common.{◌≡◌, sym}
+use Rattle.std.proofs.Common.{sym}
 use Rattle.rate_lane.proofs.KeyEqLemmas.{state_of-is, written-is}
 use Rattle.rate_lane.proofs.stepping.step_kept.Goals as goal
 

@@ -1,4 +1,4 @@
-use Rattle.std.proofs.Common.{◌≡◌, length, sym, ap, ◌∙◌, subst}
+use Rattle.std.proofs.Common.{◌≡◌, sym, ap, ◌∙◌, subst}
 use Rattle.rate_plain.specs.KeyParts.{KeyParts}
 use Rattle.indexmap.specs.IndexMap.{spare}
 use Rattle.rate_lane.specs.Index.{state_of, IsOrdered, live_at}
