@@ -7,3 +7,4 @@ pub mod LaneLemmas
 pub mod PreparedLemmas
 pub mod LaneStepLemmas
 pub mod LiveKeysLemmas
+pub mod LanesLemmas

@@ -3,3 +3,4 @@ pub mod KeyState
 pub mod Index
 pub mod Stepping
 pub mod Lane
+pub mod Lanes

@@ -5,7 +5,9 @@
 mod index;
 mod key_state;
 mod lane;
+mod lanes;
 mod order;
 mod stepping;
 
 pub use lane::Lane;
+pub use lanes::Lanes;

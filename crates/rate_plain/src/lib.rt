@@ -22,4 +22,4 @@ pub use laws::{
     lane_decides, lane_stands_alone, live_stays_within, one_lane_is_any,
 };
 pub use plain::PlainCounter;
-pub use tally::Tally;
+pub use tally::{MOST_STEPS, Tally};
