@@ -8,3 +8,5 @@ pub mod PreparedLemmas
 pub mod LaneStepLemmas
 pub mod LiveKeysLemmas
 pub mod LanesLemmas
+pub mod RingLemmas
+pub mod DroppingLemmas

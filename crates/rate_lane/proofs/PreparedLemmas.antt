@@ -16,7 +16,7 @@ use Rattle.rate_lane.proofs.KeyStateLemmas.{not_lt}
 use Rattle.rate_lane.proofs.IndexLemmas.{grown_ordered}
 
 -- a state that is live is the one that is kept
-kept_live : (at : ℕ) (kept : Option KeyState) (state : KeyState) → live_at at kept ≡ Some state → kept ≡ Some state
+pub kept_live : (at : ℕ) (kept : Option KeyState) (state : KeyState) → live_at at kept ≡ Some state → kept ≡ Some state
 kept_live at None state e = absurd (true≢false (sym (ap is_some e)))
 kept_live at (Some old) state e = by (nat_lt at old.live_until) e
   where

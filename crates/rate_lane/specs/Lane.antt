@@ -1,5 +1,5 @@
 -- A lane, and the lists of steps that it stands for.
-use Rattle.std.specs.Prelude.{◌≡◌, ◌⊎◌, ℕ, Bool, true, false, List, [], ◌∷◌, ◌++◌, length, IsOk, MatchResult}
+use Rattle.std.specs.Prelude.{◌≡◌, ◌⊎◌, ℕ, max, Bool, true, false, List, [], ◌∷◌, ◌++◌, length, IsOk, MatchResult}
 use Rattle.std.specs.declared.result.Result.{Result}
 use Rattle.edge_base.specs.declared.refusal.Memory.{Memory}
 use Rattle.rate_plain.specs.KeyParts.{KeyParts}
@@ -9,7 +9,7 @@ use Rattle.rate_plain.specs.declared.entry.Ask.{Ask}
 use Rattle.rate_plain.specs.declared.entry.Answer.{Answer}
 use Rattle.rate_plain.specs.declared.entry.Entry.{Entry}
 use Rattle.rate_lane.specs.Index.{state_of, KeepsAll}
-use Rattle.rate_lane.specs.Stepping.{is_roomy}
+use Rattle.rate_lane.specs.Stepping.{is_roomy, GrowsRings}
 use Rattle.rate_lane.specs.declared.lane.Lane.{Lane}
 
 -- how many live keys a lane has room for
@@ -38,6 +38,12 @@ IsSame before after =
 -- the lane keeps the key, and its ring has more places than moments
 abbrev pub has_room_for : Lane → KeyParts → Bool
 has_room_for lane key = is_roomy (state_of lane.index.entries key)
+
+-- each ring that is kept has the places that it had, or one if it is new; the asked key's has twice as many or its
+-- threshold's number, whichever is less, where the step adds and found it full
+abbrev pub GrowsAsFull : Lane → Lane → Ask → Type 0
+GrowsAsFull before after ask =
+    GrowsRings before.index.entries after.index.entries ask (max before.moment ask.asked)
 
 -- a step that doesn't add, or whose key is live with room, isn't refused
 abbrev pub SparesMemory : Lane → Ask → Result Answer Memory → Type 0

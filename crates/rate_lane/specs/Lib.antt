@@ -4,3 +4,4 @@ pub mod Index
 pub mod Stepping
 pub mod Lane
 pub mod Lanes
+pub mod Laws

@@ -30,8 +30,8 @@ fn later(moment: Moment, other: Moment) -> Moment
 }
 
 impl Lane {
-    ghost use Rattle.std.specs.Prelude.{◌≡◌, ◌≤◌, [], IfOk, OnErr};
-    ghost use Rattle.rate_lane.specs.Lane.{cap_of, has_room_for, IsLaneOf, IsSame, StepsLane, SparesMemory, CountsLive};
+    ghost use Rattle.std.specs.Prelude.{◌≡◌, ◌≤◌, [], IfOk, OnOk, OnErr};
+    ghost use Rattle.rate_lane.specs.Lane.{cap_of, has_room_for, IsLaneOf, IsSame, StepsLane, GrowsAsFull, SparesMemory, CountsLive};
 
     /// A lane without steps, with room for so many live keys, which are hashed by this.
     pub fn new(alloc: Global, cap: u32, hasher: RandomState) -> Result<Lane, Memory>
@@ -58,6 +58,7 @@ impl Lane {
         ensures steps { StepsLane self.old self.new ask.now result }
         ensures cap { cap_of self.new ≡ cap_of self.old }
         ensures err { OnErr result (IsSame self.old self.new) }
+        ensures rings { OnOk result (GrowsAsFull self.old self.new ask.now) }
         ensures no_memory { SparesMemory self.old ask.now result }
     {
         let at = later(self.moment, ask.asked);

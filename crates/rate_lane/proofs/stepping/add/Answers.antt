@@ -1,4 +1,4 @@
-use Rattle.std.proofs.Common.{◌≡◌, true, sym, ◌∙◌, subst, set}
+use Rattle.std.proofs.Common.{◌≡◌, true, sym, ap, ◌∙◌, subst, set}
 use Rattle.indexmap.specs.IndexMap.{insert_entry}
 use Rattle.rate_plain.specs.contracts.key.KeyPartialEq.TheImpl.{eq-value}
 use Rattle.rate_lane.specs.KeyState.{StepsKey}
@@ -15,6 +15,7 @@ returns-clause-added c =
       new = c.step-answer.new.self;
       entries = inserted-is entries c.insert.new.self.entries c.args.fresh.0 c.step-answer.new.self inserted c.requires.absent;
       steps = subst (λ state. StepsKey state c.step-answer.new.self c.args.fresh.0 true c.args.at c.step-answer.result) c.requires.dead c.step-answer.ensures.steps;
+      places = c.step-answer.ensures.places ∙ ap (λ s. s.moments.capacity) c.requires.dead;
     }
 
 pub returns-clause-ordered : goal.returns-clause-ordered

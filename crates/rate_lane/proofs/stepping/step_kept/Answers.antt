@@ -10,4 +10,5 @@ returns-clause-kept c = record {
   entries = written-is c.args.index.now.entries _ c.args.ask.now.key c.step.new.self (c.get_mut.follows.holds c.step.new.self).0;
   steps = c.step.ensures.steps;
   longer = c.step.ensures.longer;
+  places = c.step.ensures.places;
 }
