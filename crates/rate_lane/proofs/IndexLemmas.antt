@@ -1,9 +1,9 @@
 -- The places of a lane's keys, once one was taken out, and which of them are live.
-use Rattle.std.proofs.Common.{◌≡◌, ◌⊎◌, inl, inr, map, ℕ, zero, suc, ◌+◌, ◌-◌, ◌^◌, ◌<◌, ◌≤◌, ◌≢◌, Bool, true, false, cond, not, nat_lt, nat_le, List, [], ◌∷◌, length, take, set, get_or, slice_get, All, sum_by, Option, Some, None, is_some, IfSome, refl, sym, ap, ◌∙◌, subst, subst₂, ◌++◌, arith, ltb-true, lt-ltb, le-leb, leb-true}
+use Rattle.std.proofs.Common.{◌≡◌, ◌⊎◌, inl, inr, ℕ, zero, suc, ◌+◌, ◌-◌, ◌^◌, ◌<◌, ◌≤◌, ◌≢◌, Bool, true, false, cond, nat_le, List, [], ◌∷◌, length, set, get_or, slice_get, All, Option, Some, None, is_some, IfSome, refl, sym, ap, ◌∙◌, subst, subst₂, ◌++◌, arith, lt-ltb, le-leb, leb-true}
 use Rattle.std.specs.List.{IsDistinct, AllByRecursion, swap_remove}
 use Rattle.std.specs.Map.{lookup, keys_of, values_of, set_value}
 use Rattle.std.proofs.lemmas.Bool.{true≢false, false_from_ne_true, cases_lt}
-use Rattle.std.proofs.lemmas.List.{get_or-set_same, get_or-set_other, get_or-take, get_or_default, get_or-map, get_or_append_left, get_or_push, length_push, length-set, length-take, length-map}
+use Rattle.std.proofs.lemmas.List.{get_or-set_same, get_or-set_other, get_or-take, get_or_default, get_or-map, get_or_append_left, get_or_push, length_push, length-set, length-take}
 use Rattle.std.proofs.lemmas.List.Sums.{sum_by-set}
 use Rattle.std.proofs.lemmas.Option.{slice_get-get_or, get_or_from_slice_get}
 use Rattle.rate_plain.specs.KeyParts.{KeyParts}

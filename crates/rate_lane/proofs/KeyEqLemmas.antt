@@ -1,5 +1,5 @@
 -- The test by which the index tells keys apart is the one of the window rule.
-use Rattle.std.proofs.Common.{◌≡◌, Bool, true, false, cond, ◌&&◌, nat_eq, bytes_eq, ◌==◌, List, [], ◌∷◌, ◌++◌, Option, Some, None, is_some, true≢false, refl, ap, ◌∙◌, subst}
+use Rattle.std.proofs.Common.{◌≡◌, Bool, true, false, cond, ◌&&◌, bytes_eq, ◌==◌, [], ◌∷◌, ◌++◌, Option, Some, None, is_some, true≢false, refl, ap, ◌∙◌, subst}
 use Rattle.std.specs.List.{IsDistinct}
 use Rattle.std.specs.Map.{lookup, keys_of, set_value}
 use Rattle.indexmap.specs.IndexMap.{insert_entry}

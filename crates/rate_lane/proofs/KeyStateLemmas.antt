@@ -1,6 +1,5 @@
 -- The moments of a key, and what one more step of it changes.
-use Rattle.std.proofs.Common.{◌≡◌, ◌⊎◌, inl, inr, ℕ, suc, ◌+◌, ◌-◌, ◌<◌, ◌≤◌, ◌≢◌, max, Bool, true, false, cond, not, ◌&&◌, ◌||◌, ◌==◌, nat_lt, nat_le, List, [], ◌∷◌, ◌++◌, length, filter, drop, Option, Some, None, is_some, refl, sym, ap, ◌∙◌, subst, arith, ltb-true, lt-ltb, le-leb, leb-true, eqb-true, append-nil, add-zero}
-use Rattle.std.specs.List.{list_any}
+use Rattle.std.proofs.Common.{◌≡◌, ◌⊎◌, inl, inr, ℕ, suc, ◌+◌, ◌-◌, ◌<◌, ◌≤◌, ◌≢◌, max, Bool, true, false, cond, not, ◌&&◌, ◌||◌, ◌==◌, nat_lt, List, [], ◌∷◌, ◌++◌, length, filter, drop, Option, Some, None, is_some, refl, sym, ap, ◌∙◌, subst, arith, ltb-true, lt-ltb, le-leb, leb-true, eqb-true, append-nil, add-zero}
 use Rattle.std.proofs.lemmas.Bool.{true≢false, false_from_ne_true, eq-eqb, or_parts, cases_lt}
 use Rattle.std.proofs.lemmas.List.{length_push}
 use Rattle.std.proofs.lemmas.List.Elements.{filter-append}
@@ -8,13 +7,12 @@ use Rattle.std.proofs.lemmas.List.Folds.{list_any-append}
 use Rattle.rate_plain.specs.KeyParts.{KeyParts}
 use Rattle.rate_plain.specs.Keys.{same_key}
 use Rattle.rate_plain.specs.Window.{counted_of, held_until, is_live, held_or, is_counted}
-use Rattle.rate_plain.specs.LiveSteps.{end_above, later_of, makes_live}
+use Rattle.rate_plain.specs.LiveSteps.{end_above, makes_live}
 use Rattle.rate_plain.proofs.KeyLemmas.{same_key-refl}
 use Rattle.rate_plain.proofs.WindowLemmas.{held_with, counted_push, held_push}
 use Rattle.rate_plain.proofs.LiveLemmas.{is_live_any}
 use Rattle.rate_plain.specs.declared.entry.Entry.{Entry}
-use Rattle.rate_plain.specs.declared.entry.Answer.{Answer}
-use Rattle.rate_plain.specs.declared.entry.Answer.TheVariants.{Pass, Over, Full}
+use Rattle.rate_plain.specs.declared.entry.Answer.TheVariants.{Pass, Over}
 use Rattle.circular_buffer.specs.Buffer.{buffer, keep_last}
 use Rattle.rate_lane.specs.KeyState.{dead_state, counted_among, Ascends, is_oldest_over, Forgets, IsStateOf, IsReady, answer_within, entry_at, StepsKey}
 use Rattle.rate_lane.specs.declared.key_state.KeyState.{KeyState}

@@ -1,9 +1,9 @@
 -- What is kept of a lane's keys, as steps are taken and dead keys are dropped.
-use Rattle.std.proofs.Common.{◌≡◌, ◌⊎◌, inl, inr, map, ℕ, suc, ◌+◌, ◌<◌, ◌≤◌, max, Bool, true, false, cond, not, ◌&&◌, ◌||◌, ◌==◌, nat_lt, nat_le, List, [], ◌∷◌, ◌++◌, length, filter, fold, get_or, Option, Some, None, is_some, refl, sym, ap, ◌∙◌, subst, arith, add-zero, true≢false, lt-ltb, le-leb, leb-true, eq-eqb}
-use Rattle.std.specs.List.{list_any, IsDistinct}
-use Rattle.std.specs.Set.{is_member, distinct_count}
-use Rattle.std.specs.Map.{lookup, keys_of, set_value}
-use Rattle.std.proofs.lemmas.Bool.{false_from_ne_true, or_parts, cases_lt}
+use Rattle.std.proofs.Common.{◌≡◌, inl, map, ℕ, ◌+◌, ◌<◌, ◌≤◌, Bool, true, false, cond, not, ◌&&◌, ◌||◌, ◌==◌, nat_lt, nat_le, List, [], ◌∷◌, ◌++◌, length, filter, Option, Some, None, is_some, refl, sym, ap, ◌∙◌, subst, arith, add-zero, true≢false, le-leb, leb-true, eq-eqb}
+use Rattle.std.specs.List.{IsDistinct}
+use Rattle.std.specs.Set.{is_member}
+use Rattle.std.specs.Map.{keys_of, set_value}
+use Rattle.std.proofs.lemmas.Bool.{false_from_ne_true}
 use Rattle.std.proofs.lemmas.List.{length-map}
 use Rattle.std.proofs.lemmas.Map.{lookup-set_value}
 use Rattle.std.proofs.lemmas.Map.Made.{is_some-lookup, length-from_keys}
@@ -15,16 +15,17 @@ use Rattle.rate_plain.specs.Window.{entries_in, counted_of, held_until, is_live,
 use Rattle.rate_plain.specs.LiveSteps.{end_above, makes_live, is_made_live}
 use Rattle.rate_plain.proofs.KeyLemmas.{same_key-refl, same_key-Decides, same_key-equiv}
 use Rattle.rate_plain.proofs.WindowLemmas.{held_with, counted_push, held_push}
+use Rattle.rate_plain.proofs.DeadLemmas.{dead_free}
 use Rattle.rate_plain.proofs.LiveLemmas.{is_live_any, live_in_lane}
 use Rattle.rate_plain.specs.declared.entry.Ask.{Ask}
 use Rattle.rate_plain.specs.declared.entry.Entry.{Entry}
 use Rattle.rate_plain.specs.declared.entry.Answer.{Answer}
 use Rattle.rate_plain.specs.declared.entry.Answer.TheVariants.{Pass, Over, Full}
-use Rattle.rate_lane.specs.KeyState.{dead_state, IsStateOf, answer_within, entry_at, StepsKey}
+use Rattle.rate_lane.specs.KeyState.{IsStateOf, answer_within, entry_at}
 use Rattle.rate_lane.specs.Index.{Entries, state_of, live_at, IsKept, KeepsAll}
-use Rattle.rate_lane.specs.Stepping.{IsReadyFor, AreLive, with_step, StepsState, AddsState, StepsAll}
+use Rattle.rate_lane.specs.Stepping.{AreLive, with_step, StepsState, AddsState, StepsAll}
 use Rattle.rate_lane.specs.declared.key_state.KeyState.{KeyState}
-use Rattle.rate_lane.proofs.KeyStateLemmas.{not_lt, ascends_to, is_live_push, fresh_state}
+use Rattle.rate_lane.proofs.KeyStateLemmas.{is_live_push, fresh_state}
 
 -- a step of another key changes nothing of what is kept of this one
 other_kept : (kept : Option KeyState) (q : KeyParts) (at : ℕ) (history : List Entry) (entry : Entry) → same_key q entry.key ≡ false → IsKept kept q at history → IsKept kept q at (history ++ entry ∷ [])
@@ -83,7 +84,7 @@ pub only_lane : (q : KeyParts) → lane_of_key 1 q ≡ 0
 only_lane q = mod-one (fnv1a64_of (key_bytes q))
 
 -- where the kept keys are the live ones, there are as many of them
-live_are_kept : (entries : Entries) (at lane : ℕ) (history : List Entry) → lane ≡ 0 → IsDistinct same_key (keys_of entries) → AreLive entries at → KeepsAll entries at history → length entries ≡ live_count 1 lane at history
+pub live_are_kept : (entries : Entries) (at lane : ℕ) (history : List Entry) → lane ≡ 0 → IsDistinct same_key (keys_of entries) → AreLive entries at → KeepsAll entries at history → length entries ≡ live_count 1 lane at history
 live_are_kept entries at lane history only unique live was =
     sym (length-map entries (λ e. e.0))
     ∙ length-from_keys same_key-equiv (keys_of entries) (filter (λ key. is_live key at history) (map (λ e. e.key) (entries_in 1 lane history))) unique same
@@ -122,13 +123,35 @@ answer_room cap history ask at room =
     none true b e = e
     none false b e = refl
 
--- a dead key isn't held
-dead_free : (key : KeyParts) (at : ℕ) (history : List Entry) → is_live key at history ≡ false → held_until key at history ≡ None
-dead_free key at history dead = by (held_until key at history) (or_parts (nat_lt 0 (counted_of key at history)) (is_some (held_until key at history)) dead).1
+-- what is kept of each key once one is set
+pub set_changed : (before after : Entries) (key : KeyParts) (old new : KeyState) → state_of before key ≡ Some old → after ≡ set_value (same_key key) before new → (q : KeyParts) → state_of after q ≡ cond (same_key key q) (Some new) (state_of before q)
+set_changed before after key old new found written q =
+    ap (λ es. state_of es q) written
+    ∙ lookup-set_value same_key-equiv (same_key key) (same_key-equiv.congr key) q new before (ap is_some found)
+
+-- and once one is added
+pub add_changed : (before after : Entries) (key : KeyParts) (new : KeyState) → state_of before key ≡ None → after ≡ before ++ (key, new) ∷ [] → (q : KeyParts) → state_of after q ≡ cond (same_key key q) (Some new) (state_of before q)
+add_changed before after key new absent written q = ap (λ es. state_of es q) written ∙ last before absent
   where
-    by : (o : Option ℕ) → is_some o ≡ false → o ≡ None
-    by None h = refl
-    by (Some end) h = absurd (true≢false h)
+    flip : (b : Bool) → same_key key q ≡ b → same_key q key ≡ b
+    flip true e = ap (same_key q) ((same_key-Decides key q).0 e) ∙ same_key-refl q
+    flip false e = false_from_ne_true (same_key q key) (λ s. true≢false (sym (ap (same_key key) ((same_key-Decides q key).0 s) ∙ same_key-refl key) ∙ e))
+
+    last : (es : Entries) → state_of es key ≡ None → state_of (es ++ (key, new) ∷ []) q ≡ cond (same_key key q) (Some new) (state_of es q)
+    last [] none = ap (λ b. cond b (Some new) None) (flip (same_key key q) refl)
+    last (e ∷ es) none = by (same_key q e.0) refl (same_key key q) refl (last es (rest (same_key key e.0) none))
+      where
+        rest : (b : Bool) → cond b (Some e.1) (state_of es key) ≡ None → state_of es key ≡ None
+        rest true n = absurd (true≢false (ap is_some n))
+        rest false n = n
+
+        by : (b : Bool) → same_key q e.0 ≡ b → (c : Bool) → same_key key q ≡ c → state_of (es ++ (key, new) ∷ []) q ≡ cond (same_key key q) (Some new) (state_of es q) →
+            cond b (Some e.1) (state_of (es ++ (key, new) ∷ []) q) ≡ cond (same_key key q) (Some new) (cond b (Some e.1) (state_of es q))
+        by false m c s r = r
+        by true m false s r = sym (ap (λ d. cond d (Some new) (Some e.1)) s)
+        by true m true s r =
+            let there : same_key key e.0 ≡ true = ap (λ k. same_key k e.0) ((same_key-Decides key q).0 s) ∙ m in
+            absurd (true≢false (ap is_some (sym (ap (λ d. cond d (Some e.1) (state_of es key)) there) ∙ none)))
 
 -- a step of a key that is kept
 pub kept_steps : (before after : Entries) (cap : ℕ) (ask : Ask) (at : ℕ) (answer : Answer) → StepsState before after ask at answer → StepsAll before after cap ask at answer
@@ -150,13 +173,8 @@ kept_steps before after cap ask at answer stepped history was ready live = (told
     told : answer ≡ answer_at 1 cap history ask at
     told = taken.0 ∙ sym (answer_live cap history ask at lives)
 
-    changed : (q : KeyParts) → state_of after q ≡ cond (same_key ask.key q) (Some stepped.new) (state_of before q)
-    changed q =
-        ap (λ es. state_of es q) stepped.entries
-        ∙ lookup-set_value same_key-equiv (same_key ask.key) (same_key-equiv.congr ask.key) q stepped.new before (ap is_some stepped.found)
-
     goes : (caller : ℕ) → KeepsAll after at (with_step history caller ask at answer)
-    goes caller = all_stepped before after ask.key stepped.new at history (entry_at caller ask.asked ask.key at ask.adds answer) refl changed was (taken.1 caller ask.asked)
+    goes caller = all_stepped before after ask.key stepped.new at history (entry_at caller ask.asked ask.key at ask.adds answer) refl (set_changed before after ask.key stepped.old stepped.new stepped.found stepped.entries) was (taken.1 caller ask.asked)
 
 -- the first step of a key that has room
 pub added_steps : (before after : Entries) (cap : ℕ) (ask : Ask) (at : ℕ) (answer : Answer) → 1 ≤ ask.key.threshold → IsDistinct same_key (keys_of before) → state_of before ask.key ≡ None → ask.adds ≡ true → length before < cap →
@@ -177,32 +195,9 @@ added_steps before after cap ask at answer some unique absent adds room added hi
         no : cap ≤ length before → ⊥
         no full = omega (arith, full, room)
 
-    changed : (q : KeyParts) → state_of after q ≡ cond (same_key ask.key q) (Some added.new) (state_of before q)
-    changed q = ap (λ es. state_of es q) added.entries ∙ last before absent
-      where
-        flip : (b : Bool) → same_key ask.key q ≡ b → same_key q ask.key ≡ b
-        flip true e = ap (same_key q) ((same_key-Decides ask.key q).0 e) ∙ same_key-refl q
-        flip false e = false_from_ne_true (same_key q ask.key) (λ s. true≢false (sym (ap (same_key ask.key) ((same_key-Decides q ask.key).0 s) ∙ same_key-refl ask.key) ∙ e))
-
-        last : (es : Entries) → state_of es ask.key ≡ None → state_of (es ++ (ask.key, added.new) ∷ []) q ≡ cond (same_key ask.key q) (Some added.new) (state_of es q)
-        last [] none = ap (λ b. cond b (Some added.new) None) (flip (same_key ask.key q) refl)
-        last (e ∷ es) none = by (same_key q e.0) refl (same_key ask.key q) refl (last es (rest (same_key ask.key e.0) none))
-          where
-            rest : (b : Bool) → cond b (Some e.1) (state_of es ask.key) ≡ None → state_of es ask.key ≡ None
-            rest true n = absurd (true≢false (ap is_some n))
-            rest false n = n
-
-            by : (b : Bool) → same_key q e.0 ≡ b → (c : Bool) → same_key ask.key q ≡ c → state_of (es ++ (ask.key, added.new) ∷ []) q ≡ cond (same_key ask.key q) (Some added.new) (state_of es q) →
-                cond b (Some e.1) (state_of (es ++ (ask.key, added.new) ∷ []) q) ≡ cond (same_key ask.key q) (Some added.new) (cond b (Some e.1) (state_of es q))
-            by false m c s r = r
-            by true m false s r = sym (ap (λ d. cond d (Some added.new) (Some e.1)) s)
-            by true m true s r =
-                let there : same_key ask.key e.0 ≡ true = ap (λ k. same_key k e.0) ((same_key-Decides ask.key q).0 s) ∙ m in
-                absurd (true≢false (ap is_some (sym (ap (λ d. cond d (Some e.1) (state_of es ask.key)) there) ∙ none)))
-
     goes : (caller : ℕ) → KeepsAll after at (with_step history caller ask at answer)
     goes caller =
-        all_stepped before after ask.key added.new at history (entry_at caller ask.asked ask.key at ask.adds answer) refl changed was
+        all_stepped before after ask.key added.new at history (entry_at caller ask.asked ask.key at ask.adds answer) refl (add_changed before after ask.key added.new absent added.entries) was
         (subst (λ b. IsStateOf added.new ask.key at (history ++ entry_at caller ask.asked ask.key at b answer ∷ [])) (sym adds) (taken.1 caller ask.asked))
 
 -- a step of a dead key that finds no room

@@ -1,5 +1,5 @@
 -- The moment of a lane, and what it stands for after a step.
-use Rattle.std.proofs.Common.{◌≡◌, ◌⊎◌, inl, inr, map, ℕ, ◌+◌, ◌<◌, ◌≤◌, max, Bool, true, false, cond, not, ◌&&◌, ◌==◌, nat_lt, List, [], ◌∷◌, ◌++◌, filter, fold, Option, Some, None, is_some, refl, sym, ap, ◌∙◌, subst, arith, true≢false, eq-eqb}
+use Rattle.std.proofs.Common.{◌≡◌, ◌⊎◌, inl, inr, map, ℕ, ◌≤◌, max, Bool, true, false, cond, not, ◌&&◌, nat_lt, List, [], ◌∷◌, ◌++◌, fold, Option, Some, None, refl, sym, ap, ◌∙◌, subst, arith, true≢false, eq-eqb}
 use Rattle.std.proofs.lemmas.List.{map-append}
 use Rattle.std.proofs.lemmas.List.Sums.{fold_push}
 use Rattle.rate_plain.specs.KeyParts.{KeyParts}
@@ -9,7 +9,7 @@ use Rattle.rate_plain.specs.History.{entry_of}
 use Rattle.rate_plain.specs.declared.entry.Ask.{Ask}
 use Rattle.rate_plain.specs.declared.entry.Entry.{Entry}
 use Rattle.rate_plain.specs.declared.entry.Answer.{Answer}
-use Rattle.rate_lane.specs.KeyState.{has_room, IsStateOf, entry_at}
+use Rattle.rate_lane.specs.KeyState.{entry_at}
 use Rattle.rate_lane.specs.Index.{Entries, state_of, live_at, IsKept, KeepsAll}
 use Rattle.rate_lane.specs.Stepping.{is_roomy, needs_memory, with_step, TakesStep}
 use Rattle.rate_lane.specs.declared.key_state.KeyState.{KeyState}
@@ -31,12 +31,16 @@ latest_from moment (x ∷ xs) =
     let two = latest_from (max 0 x) xs in
     omega (arith, one, two)
 
+-- the later of a lane's moment and another
+pub latest_is : (history : List Entry) (asked moment at : ℕ) → moment ≡ latest_of 0 history → at ≡ max moment asked → at ≡ latest_of asked history
+latest_is history asked moment at last is =
+    let most = latest_from asked (map (λ e. e.at) history) in
+    omega (arith, last, is, most)
+
 -- the moment of a step
 pub moment_is : (history : List Entry) (key : KeyParts) (asked moment at : ℕ) → moment ≡ latest_of 0 history → at ≡ max moment asked → at ≡ moment_of 1 history key asked
 moment_is history key asked moment at last is =
-    let all = ap (latest_of asked) (all_in (lane_of_key 1 key) (only_lane key) history) in
-    let most = latest_from asked (map (λ e. e.at) history) in
-    omega (arith, last, is, all, most)
+    latest_is history asked moment at last is ∙ sym (ap (latest_of asked) (all_in (lane_of_key 1 key) (only_lane key) history))
 
 -- what is kept stands for the same steps from any later moment on
 pub keeps_later : (entries : Entries) (sooner at : ℕ) (history : List Entry) → sooner ≤ at → KeepsAll entries sooner history → KeepsAll entries at history

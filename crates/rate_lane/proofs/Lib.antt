@@ -6,3 +6,7 @@ pub mod SteppingLemmas
 pub mod LaneLemmas
 pub mod PreparedLemmas
 pub mod LaneStepLemmas
+pub mod LiveKeysLemmas
+pub mod LanesLemmas
+pub mod RingLemmas
+pub mod DroppingLemmas

@@ -1,23 +1,22 @@
 -- What a step finds once it has taken its memory and the dead keys are dropped.
-use Rattle.std.proofs.Common.{◌≡◌, ◌⊎◌, inl, inr, ℕ, ◌+◌, ◌*◌, ◌<◌, ◌≤◌, min, Bool, true, false, cond, not, ◌&&◌, ◌==◌, nat_lt, List, length, Option, Some, None, is_some, refl, sym, ap, ◌∙◌, subst, arith, true≢false, ltb-true, lt-ltb, eqb-true}
+use Rattle.std.proofs.Common.{◌≡◌, ◌⊎◌, inl, inr, ℕ, ◌*◌, ◌<◌, ◌≤◌, min, Bool, true, false, cond, not, ◌&&◌, ◌==◌, nat_lt, List, length, Option, Some, None, is_some, refl, sym, ap, ◌∙◌, subst, arith, true≢false, ltb-true, lt-ltb, eqb-true}
 use Rattle.std.specs.Map.{set_value}
-use Rattle.std.proofs.lemmas.Bool.{false_from_ne_true, eqb-false, cases_lt}
+use Rattle.std.proofs.lemmas.Bool.{eqb-false, cases_lt}
 use Rattle.std.proofs.lemmas.Map.{lookup-set_value}
 use Rattle.rate_plain.specs.KeyParts.{KeyParts}
 use Rattle.rate_plain.specs.Keys.{same_key}
-use Rattle.rate_plain.specs.Window.{is_live}
 use Rattle.rate_plain.proofs.KeyLemmas.{same_key-refl, same_key-Decides, same_key-equiv}
 use Rattle.rate_plain.specs.declared.entry.Ask.{Ask}
 use Rattle.rate_plain.specs.declared.entry.Entry.{Entry}
-use Rattle.rate_lane.specs.KeyState.{dead_state, has_room, places_of, with_room, IsStateOf, IsReady}
+use Rattle.rate_lane.specs.KeyState.{has_room, with_room, IsStateOf, IsReady}
 use Rattle.rate_lane.specs.Index.{Entries, state_of, IsOrdered, live_at, IsKept, KeepsAll}
-use Rattle.rate_lane.specs.Stepping.{with_room_in, roomy_of, prepared_of, IsAtHand, IsReadyFor, AreLive}
+use Rattle.rate_lane.specs.Stepping.{with_room_in, prepared_of, IsAtHand, IsReadyFor, AreLive}
 use Rattle.rate_lane.specs.declared.key_state.KeyState.{KeyState}
-use Rattle.rate_lane.proofs.KeyStateLemmas.{not_lt, ascends_to}
+use Rattle.rate_lane.proofs.KeyStateLemmas.{not_lt}
 use Rattle.rate_lane.proofs.IndexLemmas.{grown_ordered}
 
 -- a state that is live is the one that is kept
-kept_live : (at : ℕ) (kept : Option KeyState) (state : KeyState) → live_at at kept ≡ Some state → kept ≡ Some state
+pub kept_live : (at : ℕ) (kept : Option KeyState) (state : KeyState) → live_at at kept ≡ Some state → kept ≡ Some state
 kept_live at None state e = absurd (true≢false (sym (ap is_some e)))
 kept_live at (Some old) state e = by (nat_lt at old.live_until) e
   where
@@ -118,34 +117,36 @@ prepared_keeps entries ask at history was q = by (prepared_state entries ask at 
         let more = roomy_state grown.0 q at history its in
         subst (λ s. IsKept s q at history) (sym (grown.3 ∙ ap (λ k. Some (with_room k.threshold grown.0)) (sym grown.1))) more
 
+-- what is kept stands for the same steps once it is dropped where it is dead
+pub live_is_kept : (q : KeyParts) (at : ℕ) (history : List Entry) (s : Option KeyState) → IsKept s q at history → IsKept (live_at at s) q at history
+live_is_kept q at history None gone = gone
+live_is_kept q at history (Some state) its = on (nat_lt at state.live_until) refl
+  where
+    on : (b : Bool) → nat_lt at state.live_until ≡ b → IsKept (cond b (Some state) None) q at history
+    on true live = its
+    on false dead = λ later h. its.live later h ∙ not_lt later state.live_until (early later h (cases_lt at state.live_until))
+      where
+        early : (later : ℕ) → at ≤ later → (at < state.live_until) ⊎ (state.live_until ≤ at) → state.live_until ≤ later
+        early later h (inl l) = absurd (true≢false (sym (lt-ltb at state.live_until l) ∙ dead))
+        early later h (inr g) = omega (arith, g, h)
+
+-- what is live stays so
+pub live_twice : (at : ℕ) (s : Option KeyState) → live_at at (live_at at s) ≡ live_at at s
+live_twice at None = refl
+live_twice at (Some state) = on (nat_lt at state.live_until) refl
+  where
+    on : (b : Bool) → nat_lt at state.live_until ≡ b → live_at at (cond b (Some state) None) ≡ cond b (Some state) None
+    on true live = ap (λ b. cond b (Some state) None) live
+    on false dead = refl
+
 module _ (entries swept : Entries) (ask : Ask) (at : ℕ) (kept : (q : KeyParts) → state_of swept q ≡ live_at at (state_of (prepared_of ask at entries) q)) where
   -- the dropped keys are dead, so what is left stands for the same steps
   pub swept_keeps : (history : List Entry) → KeepsAll entries at history → KeepsAll swept at history
-  swept_keeps history was q = subst (λ s. IsKept s q at history) (sym (kept q)) (by (state_of (prepared_of ask at entries) q) (prepared_keeps entries ask at history was q))
-    where
-      by : (s : Option KeyState) → IsKept s q at history → IsKept (live_at at s) q at history
-      by None gone = gone
-      by (Some state) its = on (nat_lt at state.live_until) refl
-        where
-          on : (b : Bool) → nat_lt at state.live_until ≡ b → IsKept (cond b (Some state) None) q at history
-          on true live = its
-          on false dead = λ later h. its.live later h ∙ not_lt later state.live_until (early later h (cases_lt at state.live_until))
-            where
-              early : (later : ℕ) → at ≤ later → (at < state.live_until) ⊎ (state.live_until ≤ at) → state.live_until ≤ later
-              early later h (inl l) = absurd (true≢false (sym (lt-ltb at state.live_until l) ∙ dead))
-              early later h (inr g) = omega (arith, g, h)
+  swept_keeps history was q = subst (λ s. IsKept s q at history) (sym (kept q)) (live_is_kept q at history (state_of (prepared_of ask at entries) q) (prepared_keeps entries ask at history was q))
 
   -- all that is left is live
   pub swept_live : AreLive swept at
-  swept_live q = ap (live_at at) (kept q) ∙ twice (state_of (prepared_of ask at entries) q) ∙ sym (kept q)
-    where
-      twice : (s : Option KeyState) → live_at at (live_at at s) ≡ live_at at s
-      twice None = refl
-      twice (Some state) = on (nat_lt at state.live_until) refl
-        where
-          on : (b : Bool) → nat_lt at state.live_until ≡ b → live_at at (cond b (Some state) None) ≡ cond b (Some state) None
-          on true live = ap (λ b. cond b (Some state) None) live
-          on false dead = refl
+  swept_live q = ap (live_at at) (kept q) ∙ live_twice at (state_of (prepared_of ask at entries) q) ∙ sym (kept q)
 
   -- the asked key's ring takes a further moment
   pub swept_ready : (history : List Entry) → KeepsAll entries at history → IsReadyFor swept ask

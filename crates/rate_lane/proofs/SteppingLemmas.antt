@@ -1,5 +1,5 @@
 -- What a step takes before anything changes.
-use Rattle.std.proofs.Common.{◌≡◌, ℕ, ◌<◌, ◌≤◌, Bool, true, false, cond, not, nat_lt, List, Option, Some, None, is_some, is_err, IsErr, MatchResult, OnOk, OnErr, refl, sym, ap, ◌∙◌, true≢false, lt-ltb}
+use Rattle.std.proofs.Common.{◌≡◌, ℕ, ◌<◌, ◌≤◌, Bool, true, false, cond, not, Some, None, is_err, IsErr, MatchResult, OnOk, OnErr, refl, sym, ap, ◌∙◌, true≢false, lt-ltb}
 use Rattle.std.specs.declared.result.Result.{Result}
 use Rattle.std.specs.declared.result.Result.TheVariants.{Ok, Err}
 use Rattle.std.specs.Map.{set_value}

@@ -1,11 +1,12 @@
 -- The keys of a lane with their states, and the numbers beside their places.
-use Rattle.std.specs.Prelude.{◌≡◌, ◌≢◌, ℕ, ◌+◌, ◌^◌, ◌<◌, ◌≤◌, Bool, true, false, cond, nat_lt, nat_le, List, length, sum_by, slice_index_or, Option, Some, None, is_some}
+use Rattle.std.specs.Prelude.{◌≡◌, ℕ, ◌^◌, ◌<◌, ◌≤◌, false, cond, nat_lt, nat_le, List, length, sum_by, slice_index_or, Option, Some, None}
+use Rattle.std.specs.List.{count_by}
 use Rattle.std.specs.Map.{lookup}
 use Rattle.rate_plain.specs.KeyParts.{KeyParts}
 use Rattle.rate_plain.specs.Keys.{same_key}
 use Rattle.rate_plain.specs.Window.{is_live}
 use Rattle.rate_plain.specs.declared.entry.Entry.{Entry}
-use Rattle.rate_lane.specs.KeyState.{IsStateOf, IsReady}
+use Rattle.rate_lane.specs.KeyState.{IsStateOf}
 use Rattle.rate_lane.specs.declared.key_state.KeyState.{KeyState}
 
 -- the keys and their states, by places
@@ -24,13 +25,6 @@ pub record IsOrdered (entries : Entries) (order : List ℕ) : Type 0 where
       slice_index_or order place 0 ≤ (slice_index_or entries place d).1.live_until
   pub free : (place : ℕ) → length entries ≤ place → place < length order → 2 ^ 53 < slice_index_or order place 0
 
--- the parts of a lane fit together: it has so many places, and beside each that is taken stands when to look at its key
-pub record HasPlaces (cap : ℕ) (entries : Entries) (order : List ℕ) : Type 0 where
-  pub some_place : 1 ≤ cap
-  pub few : cap ≤ 65536
-  pub places : length order ≡ cap
-  pub ordered : IsOrdered entries order
-
 -- how many of these numbers are at most this one
 abbrev pub low_count : ℕ → List ℕ → ℕ
 low_count most order = sum_by (λ number. cond (nat_le number most) 1 0) order
@@ -39,6 +33,10 @@ low_count most order = sum_by (λ number. cond (nat_le number most) 1 0) order
 abbrev pub live_at : ℕ → Option KeyState → Option KeyState
 live_at at None = None
 live_at at (Some state) = cond (nat_lt at state.live_until) (Some state) None
+
+-- how many of the keys are live
+abbrev pub live_among : ℕ → Entries → ℕ
+live_among at entries = count_by (λ entry. nat_lt at entry.1.live_until) entries
 
 -- what is kept of a key tells what its steps tell, and what isn't kept is dead
 abbrev pub IsKept : Option KeyState → KeyParts → ℕ → List Entry → Type 0

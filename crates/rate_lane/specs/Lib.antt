@@ -3,3 +3,5 @@ pub mod KeyState
 pub mod Index
 pub mod Stepping
 pub mod Lane
+pub mod Lanes
+pub mod Laws

@@ -7,7 +7,7 @@ use Rattle.rate_plain.specs.Window.{answer_at}
 use Rattle.rate_plain.specs.declared.entry.Ask.{Ask}
 use Rattle.rate_plain.specs.declared.entry.Answer.{Answer}
 use Rattle.rate_plain.specs.declared.entry.Entry.{Entry}
-use Rattle.rate_lane.specs.KeyState.{dead_state, has_room, with_room, IsReady, entry_at, StepsKey}
+use Rattle.rate_lane.specs.KeyState.{dead_state, has_room, places_of, with_room, IsReady, entry_at, StepsKey}
 use Rattle.rate_lane.specs.Index.{Entries, state_of, live_at, KeepsAll}
 use Rattle.rate_lane.specs.declared.key_state.KeyState.{KeyState}
 
@@ -52,12 +52,14 @@ pub record StepsState (before after : Entries) (ask : Ask) (at : ℕ) (answer : 
   pub entries : after ≡ set_value (same_key ask.key) before new
   pub steps : StepsKey old new ask.key ask.adds at answer
   pub longer : old.live_until ≤ new.live_until
+  pub places : new.moments.capacity ≡ old.moments.capacity
 
 -- the key has been added, with the state that its first step leaves
 pub record AddsState (before after : Entries) (key : KeyParts) (at : ℕ) (answer : Answer) : Type 0 where
   pub new : KeyState
   pub entries : after ≡ before ++ (key, new) ∷ []
   pub steps : StepsKey dead_state new key true at answer
+  pub places : new.moments.capacity ≡ 1
 
 -- the ring of the asked key takes a further moment
 abbrev pub IsReadyFor : Entries → Ask → Type 0
@@ -82,3 +84,25 @@ abbrev pub TakesStep : Entries → Entries → ℕ → Ask → ℕ → Answer �
 TakesStep before after cap ask at answer =
     (history : List Entry) → KeepsAll before at history →
     (answer ≡ answer_at 1 cap history ask at) × ((caller : ℕ) → KeepsAll after at (with_step history caller ask at answer))
+
+-- how many places the ring of a key has, which begins with one
+abbrev pub places_in : Option KeyState → ℕ
+places_in None = 1
+places_in (Some state) = state.moments.capacity
+
+-- how many it has once a step has made room
+abbrev pub grown_in : ℕ → Option KeyState → ℕ
+grown_in threshold None = 1
+grown_in threshold (Some state) = places_of threshold state
+
+-- the ring of each key that is kept has as many places as before, or one where the key wasn't kept
+abbrev pub KeepsRings : Entries → Entries → Type 0
+KeepsRings before after = (key : KeyParts) (state : KeyState) → state_of after key ≡ Some state →
+    state.moments.capacity ≡ places_in (state_of before key)
+
+-- so it has, but that the ring of the asked key has made room where the step adds; a dead key wasn't kept
+abbrev pub GrowsRings : Entries → Entries → Ask → ℕ → Type 0
+GrowsRings before after ask at = (key : KeyParts) (state : KeyState) → state_of after key ≡ Some state →
+    state.moments.capacity ≡ cond (ask.adds && same_key ask.key key)
+    (grown_in key.threshold (live_at at (state_of before key)))
+    (places_in (live_at at (state_of before key)))

@@ -1,7 +1,10 @@
 ghost use Rattle.std.specs.Prelude.{◌≡◌, ◌+◌, ◌<◌, ◌≤◌, length, slice_index_or};
+ghost use Rattle.std.specs.List.{IsDistinct};
+ghost use Rattle.std.specs.Map.{keys_of};
 ghost use Rattle.indexmap.specs.IndexMap.{spare};
 ghost use Rattle.rate_plain.specs.KeyParts.{KeyParts};
-ghost use Rattle.rate_lane.specs.Index.{state_of, IsOrdered, low_count, live_at};
+ghost use Rattle.rate_plain.specs.Keys.{same_key};
+ghost use Rattle.rate_lane.specs.Index.{state_of, IsOrdered, low_count, live_at, live_among};
 
 use crate::key_state::KeyState;
 use crate::order::{NEVER, Order};
@@ -46,4 +49,16 @@ pub fn sweep(index: &mut Index, order: &mut Order, at: Moment)
     while let Some(place) = order.within(at.get()) {
         settle(index, order, place, at);
     }
+}
+
+/// How many of the keys are live at this moment.
+pub fn live_keys(index: &Index, at: u64) -> usize
+    ensures count { result ≡ live_among at index.now.entries }
+    ensures within { result ≤ length index.now.entries }
+    ensures unique { IsDistinct same_key (keys_of index.now.entries) }
+{
+    index
+        .iter()
+        .filter(|(_, state)| at < state.live_until())
+        .count()
 }

@@ -1,7 +1,7 @@
-ghost use Rattle.std.specs.Prelude.{◌≡◌, max};
+ghost use Rattle.std.specs.Prelude.{◌≡◌, ◌≤◌, length, max};
 ghost use Rattle.rate_lane.specs.Index.{IsOrdered};
 
-use crate::index::{Index, sweep};
+use crate::index::{Index, live_keys};
 use crate::order::Order;
 use crate::stepping::take_step;
 use edge_base::{Memory, Moment};
@@ -12,12 +12,14 @@ use std::hash::RandomState;
 
 /// The steps of one lane, of which it keeps what may still count: its live keys, in room for so many.
 /// It stands for the list of all its steps, whatever callers took them.
+#[derive(Drop)]
 pub struct Lane {
     /// The latest moment of a step.
     moment: Moment,
     index: Index,
     order: Order,
     ghost ordered: { IsOrdered index.entries order },
+    ghost few: { length order ≤ 65536 },
 }
 
 /// The later of two moments.
@@ -28,8 +30,8 @@ fn later(moment: Moment, other: Moment) -> Moment
 }
 
 impl Lane {
-    ghost use Rattle.std.specs.Prelude.{◌≡◌, ◌≤◌, [], IfOk, OnErr};
-    ghost use Rattle.rate_lane.specs.Lane.{cap_of, has_room_for, IsLaneOf, IsSame, StepsLane, SparesMemory};
+    ghost use Rattle.std.specs.Prelude.{◌≡◌, ◌≤◌, [], IfOk, OnOk, OnErr};
+    ghost use Rattle.rate_lane.specs.Lane.{cap_of, has_room_for, IsLaneOf, IsSame, StepsLane, GrowsAsFull, SparesMemory, CountsLive};
 
     /// A lane without steps, with room for so many live keys, which are hashed by this.
     pub fn new(alloc: Global, cap: u32, hasher: RandomState) -> Result<Lane, Memory>
@@ -56,6 +58,7 @@ impl Lane {
         ensures steps { StepsLane self.old self.new ask.now result }
         ensures cap { cap_of self.new ≡ cap_of self.old }
         ensures err { OnErr result (IsSame self.old self.new) }
+        ensures rings { OnOk result (GrowsAsFull self.old self.new ask.now) }
         ensures no_memory { SparesMemory self.old ask.now result }
     {
         let at = later(self.moment, ask.asked);
@@ -72,5 +75,13 @@ impl Lane {
             return false;
         };
         state.has_room()
+    }
+
+    /// How many keys are live at this moment or, where the lane's own is later, at that. Takes no memory.
+    pub fn live_keys(&self, at: Moment) -> u32
+        ensures { CountsLive self.now at result }
+    {
+        let at = later(self.moment, at);
+        live_keys(&self.index, at.get()) as u32
     }
 }

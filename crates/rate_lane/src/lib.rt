@@ -5,7 +5,15 @@
 mod index;
 mod key_state;
 mod lane;
+mod lanes;
+mod laws;
 mod order;
+mod sharing;
 mod stepping;
+#[cfg(test)]
+mod tests;
 
 pub use lane::Lane;
+pub use lanes::Lanes;
+pub use laws::{a_lane_stays_small, dead_keys_can_be_dropped};
+pub use sharing::{a_lane_is_sent, lanes_are_sent};

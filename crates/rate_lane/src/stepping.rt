@@ -2,7 +2,7 @@ ghost use Rattle.std.specs.Prelude.{◌≡◌, ◌+◌, ◌<◌, ◌≤◌, fals
 ghost use Rattle.indexmap.specs.IndexMap.{spare, IsUnchanged};
 ghost use Rattle.rate_lane.specs.KeyState.{dead_state};
 ghost use Rattle.rate_lane.specs.Index.{state_of, IsOrdered, live_at};
-ghost use Rattle.rate_lane.specs.Stepping.{is_full, roomy_of, prepared_of, needs_memory, IsAtHand, StepsState, AddsState, StepsAll, TakesStep};
+ghost use Rattle.rate_lane.specs.Stepping.{is_full, roomy_of, prepared_of, needs_memory, IsAtHand, StepsState, AddsState, StepsAll, TakesStep, KeepsRings, GrowsRings};
 
 use crate::index::{Index, sweep};
 use crate::key_state::KeyState;
@@ -107,6 +107,7 @@ pub fn answer(
     requires ordered { IsOrdered index.old.entries order.old }
     requires at_hand { IsAtHand index.old.entries (spare index.old) ask.now at fresh }
     ensures steps { StepsAll index.old.entries index.new.entries (length order.old) ask.now at result }
+    ensures rings { KeepsRings index.old.entries index.new.entries }
     ensures ordered { IsOrdered index.new.entries order.new }
     ensures places { length order.new ≡ length order.old }
 {
@@ -134,6 +135,7 @@ pub fn take_step(
     ensures ordered { IsOrdered index.new.entries order.new }
     ensures places { length order.new ≡ length order.old }
     ensures ok { IfOk result (TakesStep index.old.entries index.new.entries (length order.old) ask.now at) }
+    ensures rings { OnOk result (GrowsRings index.old.entries index.new.entries ask.now at) }
     ensures err { OnErr result ((index.new.entries ≡ index.old.entries) × (order.new ≡ order.old)) }
     ensures no_memory { needs_memory index.old.entries ask.now at ≡ false → IsOk result }
 {

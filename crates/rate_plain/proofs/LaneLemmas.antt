@@ -16,7 +16,7 @@ use Rattle.rate_plain.specs.declared.entry.Entry.{Entry}
 use Rattle.rate_plain.specs.declared.entry.Answer.TheVariants.{Pass, Over, Full}
 
 -- a filter of a wider filter is the filter
-filter_within : {X : Type 0} (p q : X → Bool) → ((x : X) → p x ≡ true → q x ≡ true) → (xs : List X) → filter p (filter q xs) ≡ filter p xs
+pub filter_within : {X : Type 0} (p q : X → Bool) → ((x : X) → p x ≡ true → q x ≡ true) → (xs : List X) → filter p (filter q xs) ≡ filter p xs
 filter_within p q weaker [] = refl
 filter_within p q weaker (x ∷ xs) = by (q x) refl (filter_within p q weaker xs)
   where

@@ -8,3 +8,4 @@ pub mod BytesLemmas
 pub mod LegalLemmas
 pub mod BoundLemmas
 pub mod CallerLemmas
+pub mod DeadLemmas

@@ -1,8 +1,8 @@
 -- What holds of the window rule and of every legal history.
-use Rattle.std.specs.Prelude.{◌≡◌, ℕ, ◌<◌, ◌≤◌, ◌^◌, ◌≢◌, ◌↔◌, true, List, [], ◌∷◌, ◌++◌, All, take}
+use Rattle.std.specs.Prelude.{◌≡◌, ℕ, ◌<◌, ◌≤◌, ◌^◌, ◌≢◌, ◌↔◌, true, false, not, List, [], ◌∷◌, ◌++◌, All, filter, take}
 use Rattle.rate_plain.specs.KeyParts.{KeyParts}
 use Rattle.rate_plain.specs.Keys.{same_key, lane_of_key, key_bytes}
-use Rattle.rate_plain.specs.Window.{entries_in, moment_of, answer_of, counted_of, live_count}
+use Rattle.rate_plain.specs.Window.{entries_in, moment_of, answer_at, answer_of, counted_of, is_live, live_count}
 use Rattle.rate_plain.specs.History.{Follows, IsLegal, AreOneLane, AreAlike}
 use Rattle.rate_plain.specs.declared.entry.Ask.{Ask}
 use Rattle.rate_plain.specs.declared.entry.Entry.{Entry}
@@ -64,6 +64,21 @@ AnyCallersGiveMoment = (lanes : ℕ) (a b : List Entry) (key : KeyParts) (asked 
 abbrev pub AnyCallersGiveAnswer : Type 0
 AnyCallersGiveAnswer = (lanes cap : ℕ) (a b : List Entry) (ask : Ask) →
     AreAlike a b → answer_of lanes cap a ask ≡ answer_of lanes cap b ask
+
+-- a key that isn't live at a moment isn't so at any later one, unless it takes a further step
+abbrev pub DeadStayDead : Type 0
+DeadStayDead = (key : KeyParts) (sooner at : ℕ) (history : List Entry) → sooner ≤ at →
+    is_live key sooner history ≡ false → is_live key at history ≡ false
+
+-- the entries but those of a key
+abbrev pub without_key : KeyParts → List Entry → List Entry
+without_key key history = filter (λ entry. not (same_key key entry.key)) history
+
+-- the entries of a key that isn't live decide no answer from that moment on, whatever steps come between
+abbrev pub DeadKeysGiveNoAnswer : Type 0
+DeadKeysGiveNoAnswer = (lanes cap : ℕ) (history later : List Entry) (key : KeyParts) (sooner at : ℕ) (ask : Ask) →
+    is_live key sooner history ≡ false → sooner ≤ at →
+    answer_at lanes cap (without_key key history ++ later) ask at ≡ answer_at lanes cap (history ++ later) ask at
 
 -- no step is legal, one more that follows keeps a history legal, and so does leaving off its end
 pub record LegalStepByStep : Type 0 where

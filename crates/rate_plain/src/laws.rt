@@ -2,6 +2,7 @@
 
 ghost use Rattle.rate_plain.specs.Laws.{KeysAreApart, KeysAreTold, LaneGivesMoment, LaneGivesAnswer, OneLaneGivesMoment, OneLaneGivesAnswer};
 ghost use Rattle.rate_plain.specs.Laws.{LaneStandsAloneInMoment, LaneStandsAlone, AnyCallersGiveMoment, AnyCallersGiveAnswer};
+ghost use Rattle.rate_plain.specs.Laws.{DeadStayDead, DeadKeysGiveNoAnswer};
 ghost use Rattle.rate_plain.specs.Laws.{LegalStepByStep, CountedStaysWithin, LiveStaysWithin};
 
 /// Different keys have different bytes, and the test on keys tells them apart.
@@ -32,6 +33,12 @@ pub fn lane_stands_alone()
 pub fn callers_decide_nothing()
     ensures moment { AnyCallersGiveMoment }
     ensures answer { AnyCallersGiveAnswer }
+{}
+
+/// A key that isn't live can be dropped without changing any later answer.
+pub fn dead_keys_decide_nothing()
+    ensures stay { DeadStayDead }
+    ensures answer { DeadKeysGiveNoAnswer }
 {}
 
 /// A legal history grows step by step, and its beginnings are legal.

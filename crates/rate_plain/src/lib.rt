@@ -18,8 +18,9 @@ pub use fault::StepFault;
 pub use hash::fnv1a64;
 pub use key::{Key, lane_of};
 pub use laws::{
-    callers_decide_nothing, counted_stays_within, history_is_legal_step_by_step, keys_are_apart,
-    lane_decides, lane_stands_alone, live_stays_within, one_lane_is_any,
+    callers_decide_nothing, counted_stays_within, dead_keys_decide_nothing,
+    history_is_legal_step_by_step, keys_are_apart, lane_decides, lane_stands_alone,
+    live_stays_within, one_lane_is_any,
 };
 pub use plain::PlainCounter;
-pub use tally::Tally;
+pub use tally::{MOST_STEPS, Tally};

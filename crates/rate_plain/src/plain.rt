@@ -2,13 +2,10 @@ ghost use Rattle.std.specs.Prelude.{◌≤◌};
 
 use crate::entry::{Answer, Ask, Entry};
 use crate::fault::StepFault;
-use crate::tally::Tally;
+use crate::tally::{MOST_STEPS, Tally};
 use crate::window::{answer, moment};
 use sqlite_items::Items;
 use std::alloc::Global;
-
-/// The greatest number of steps that a history has: 2^50.
-const MOST_STEPS: u64 = 1 << 50;
 
 /// The window rule over the whole list of steps, which is kept as it is.
 #[derive(Debug, Drop)]

@@ -6,6 +6,9 @@ use crate::entry::{Answer, Ask};
 use crate::fault::StepFault;
 use std::alloc::Global;
 
+/// The greatest number of steps that a history has: 2^50.
+pub const MOST_STEPS: u64 = 1 << 50;
+
 /// What counts steps. It need not keep the list that it stands for: a key that is dead may be forgotten.
 pub trait Tally {
     /// So many lanes, with room for so many live keys each, and the steps so far.

@@ -3,7 +3,7 @@ use Rattle.std.specs.List.{swap_remove}
 use Rattle.std.proofs.lemmas.Option.{get_or_from_slice_get}
 use Rattle.indexmap.specs.IndexMap.{Updates}
 use Rattle.rate_plain.specs.contracts.key.KeyPartialEq.TheImpl.{eq-value}
-use Rattle.rate_lane.specs.Index.{state_of, IsOrdered, low_count, live_at}
+use Rattle.rate_lane.specs.Index.{IsOrdered, low_count}
 use Rattle.rate_lane.proofs.IndexLemmas.{value_at, is_taken, taken_out, moved, moved_ordered, moved_fewer, taken_live}
 use Rattle.rate_lane.proofs.KeyEqLemmas.{updates-is, unique-is}
 use Rattle.rate_lane.proofs.index.settle.Goals as goal

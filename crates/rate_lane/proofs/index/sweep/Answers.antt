@@ -1,5 +1,4 @@
-use Rattle.std.proofs.Common.{◌≡◌, ◌<◌, All, sym, ◌∙◌, subst}
-use Rattle.rate_lane.specs.Index.{state_of, live_at}
+use Rattle.std.proofs.Common.{◌<◌, All, sym, ◌∙◌, subst}
 use Rattle.rate_lane.proofs.IndexLemmas.{all_live}
 use Rattle.rate_lane.proofs.index.sweep.Goals as goal
 

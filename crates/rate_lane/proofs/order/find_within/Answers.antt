@@ -1,4 +1,3 @@
-use Rattle.std.proofs.Common.{arith}
 use Rattle.rate_lane.proofs.OrderLemmas.{all_above}
 use Rattle.rate_lane.proofs.order.find_within.Goals as goal
 

@@ -1,4 +1,4 @@
-use Rattle.std.proofs.Common.{◌≡◌, ◌*◌, ◌-◌, ◌<◌, ◌≤◌}
+use Rattle.std.proofs.Common.{◌*◌, ◌-◌, ◌<◌, ◌≤◌}
 use Rattle.rate_lane.specs.Order.{node_of}
 use Rattle.rate_lane.proofs.order.find_within.Given as goal
 

@@ -4,7 +4,6 @@ use Rattle.rate_plain.specs.contracts.key.KeyPartialEq.TheImpl.{eq-value}
 use Rattle.rate_lane.specs.KeyState.{StepsKey}
 use Rattle.rate_lane.proofs.IndexLemmas.{added_ordered}
 use Rattle.rate_lane.proofs.KeyEqLemmas.{inserted-is}
-use Rattle.rate_lane.proofs.PreparedLemmas.{swept_keeps}
 use Rattle.rate_lane.proofs.SteppingLemmas.{from_ok}
 use Rattle.rate_lane.proofs.stepping.add.Goals as goal
 
@@ -16,6 +15,7 @@ returns-clause-added c =
       new = c.step-answer.new.self;
       entries = inserted-is entries c.insert.new.self.entries c.args.fresh.0 c.step-answer.new.self inserted c.requires.absent;
       steps = subst (λ state. StepsKey state c.step-answer.new.self c.args.fresh.0 true c.args.at c.step-answer.result) c.requires.dead c.step-answer.ensures.steps;
+      places = c.step-answer.ensures.places ∙ ap (λ s. s.moments.capacity) c.requires.dead;
     }
 
 pub returns-clause-ordered : goal.returns-clause-ordered

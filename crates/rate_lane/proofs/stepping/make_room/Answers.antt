@@ -1,4 +1,4 @@
-use Rattle.std.proofs.Common.{◌≡◌, ◌<◌, ◌≤◌, false, Some, sym, ap, ◌∙◌, true≢false, arith}
+use Rattle.std.proofs.Common.{◌<◌, ◌≤◌, Some, sym, ap, ◌∙◌, true≢false, arith}
 use Rattle.std.proofs.lemmas.Map.Steps.{set_value_same}
 use Rattle.rate_plain.specs.Keys.{same_key}
 use Rattle.rate_lane.proofs.KeyEqLemmas.{state_of-is, written-is}

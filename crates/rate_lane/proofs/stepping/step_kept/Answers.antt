@@ -1,4 +1,4 @@
-use Rattle.std.proofs.Common.{◌≡◌, sym}
+use Rattle.std.proofs.Common.{sym}
 use Rattle.rate_lane.proofs.KeyEqLemmas.{state_of-is, written-is}
 use Rattle.rate_lane.proofs.stepping.step_kept.Goals as goal
 
@@ -10,4 +10,5 @@ returns-clause-kept c = record {
   entries = written-is c.args.index.now.entries _ c.args.ask.now.key c.step.new.self (c.get_mut.follows.holds c.step.new.self).0;
   steps = c.step.ensures.steps;
   longer = c.step.ensures.longer;
+  places = c.step.ensures.places;
 }

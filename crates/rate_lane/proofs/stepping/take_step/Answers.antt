@@ -1,9 +1,10 @@
-use Rattle.std.proofs.Common.{◌≡◌, length, sym, ap, ◌∙◌, subst}
+use Rattle.std.proofs.Common.{◌≡◌, sym, ap, ◌∙◌, subst}
 use Rattle.rate_plain.specs.KeyParts.{KeyParts}
 use Rattle.indexmap.specs.IndexMap.{spare}
 use Rattle.rate_lane.specs.Index.{state_of, IsOrdered, live_at}
-use Rattle.rate_lane.specs.Stepping.{prepared_of, TakesStep}
+use Rattle.rate_lane.specs.Stepping.{prepared_of, places_in, TakesStep}
 use Rattle.rate_lane.proofs.PreparedLemmas.{prepared_ordered, swept_keeps, swept_live, swept_ready, swept_at_hand}
+use Rattle.rate_lane.proofs.RingLemmas.{rings_prepared}
 use Rattle.rate_lane.proofs.stepping.take_step.Goals as goal
 
 pub sweep-requires : goal.sweep-requires
@@ -27,3 +28,10 @@ returns-clause-ok c =
     (swept_keeps entries c.sweep.new.index.entries c.args.ask.now c.args.at kept history was)
     (swept_ready entries c.sweep.new.index.entries c.args.ask.now c.args.at kept history was)
     (swept_live entries c.sweep.new.index.entries c.args.ask.now c.args.at kept))
+
+pub returns-clause-rings : goal.returns-clause-rings
+returns-clause-rings c key state found =
+    let entries = c.args.index.now.entries in
+    c.answer.ensures.rings key state found
+    ∙ ap places_in (c.sweep.ensures.kept key ∙ ap (λ es. live_at c.args.at (state_of es key)) c.in_ok-fresh.ensures.entries)
+    ∙ rings_prepared entries c.args.ask.now c.args.at key

@@ -1,4 +1,4 @@
-use Rattle.std.proofs.Common.{◌≡◌, [], refl, sym, subst}
+use Rattle.std.proofs.Common.{[], refl, sym, subst}
 use Rattle.rate_lane.specs.Index.{KeepsAll}
 use Rattle.rate_lane.proofs.lane.Lane.new.Goals as goal
 

@@ -1,4 +1,4 @@
-use Rattle.std.proofs.Common.{◌≡◌, ap, ◌∙◌}
+use Rattle.std.proofs.Common.{ap, ◌∙◌}
 use Rattle.rate_lane.specs.Stepping.{is_roomy}
 use Rattle.rate_lane.proofs.KeyEqLemmas.{state_of-is}
 use Rattle.rate_lane.proofs.lane.Lane.room.Goals as goal

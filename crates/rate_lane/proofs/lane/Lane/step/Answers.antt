@@ -1,4 +1,4 @@
-use Rattle.std.proofs.Common.{◌≡◌, length, sym, ap, ◌∙◌, subst, true≢false}
+use Rattle.std.proofs.Common.{length, sym, subst, true≢false}
 use Rattle.rate_lane.specs.Index.{KeepsAll}
 use Rattle.rate_lane.proofs.SteppingLemmas.{on_fault}
 use Rattle.rate_lane.proofs.LaneStepLemmas.{stands_after, spares}
