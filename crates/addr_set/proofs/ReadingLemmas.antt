@@ -2,6 +2,8 @@
 use Rattle.std.proofs.Common.{◌≡◌, ◌≢◌, ℕ, Bool, true, not, ◌==◌, suc, ◌+◌, ◌-◌, ◌<◌, ◌≤◌, List, [], ◌∷◌, ◌++◌, length, get_or, take, drop, Some, None, Result, Ok, Err, refl, sym, ap, ◌∙◌, subst, inl, inr, arith, append_assoc, append-nil, length-append, add-one, add-zero, eqb-true, eq-eqb, take_at, drop_at, take-append-drop}
 use Rattle.std.proofs.lemmas.Bool.{cases_lt, and_from}
 use Rattle.std.proofs.lemmas.Bool.Decides.{nat_tests}
+use Rattle.std.specs.Bool.{MatchBool}
+use Rattle.std.specs.Result.{is_ok}
 use Rattle.std.proofs.lemmas.List.{get_or_append_left, get_or-append_right, get_or_past}
 use Rattle.std.proofs.Math.Seq.{drop-cons}
 use Rattle.std.specs.Str.Parse.{AllDigits}
@@ -20,7 +22,7 @@ use Rattle.addr_set.proofs.PrefixLemmas.{bits_digits}
 use Rattle.addr_set.specs.declared.reading.Flaw.{Flaw}
 use Rattle.addr_set.specs.declared.reading.Flaw.TheVariants as flaw
 use Rattle.addr_set.specs.Sets.{width_of, IsRange, IsAddrItem}
-use Rattle.addr_set.specs.ItemTexts.{IsOneFamily, IsBelow, IsRangeText, IsItemText, IsNoItemText, IsLongPrefix, IsBackward, IsRefused, ItemIsUnique}
+use Rattle.addr_set.specs.ItemTexts.{IsOneFamily, IsBelow, IsRangeText, IsItemText, IsGoodText, IsNoItemText, IsLongPrefix, IsBackward, IsRefused, ItemIsUnique}
 use Rattle.addr_set.specs.Readings.{Reads, ReadsRange, ReadsBlock}
 use Rattle.addr_set.proofs.CleanLemmas.{HasNoSlash, HasDotsApart, HasDotsApart-append, HasDotsApart-digits, AllDigits-weaker, IsClean-address, no_slash_at, digit_after_dot}
 
@@ -367,3 +369,10 @@ pub IsRefused-backward : (text : List ℕ) → IsBackward text → IsRefused tex
 IsRefused-backward text (first, last, range, below) one good =
     let same = range_is text first last one range good.spelled in
     not_both first last (subst IsAddrItem (sym same) good.is_good) below
+
+-- a reading that succeeds gives an item, and one that doesn't tells that there is none
+pub reading_is_ok : (text : List ℕ) (r : Result Item Flaw) → Reads text r → MatchBool (is_ok r) ((one : Item) × IsGoodText text one) (IsRefused text)
+reading_is_ok text (Ok one) good = (one, good)
+reading_is_ok text (Err flaw.Address) none = IsRefused-no_item text none
+reading_is_ok text (Err flaw.Prefix) long = IsRefused-long_prefix text long
+reading_is_ok text (Err flaw.Backward) back = IsRefused-backward text back

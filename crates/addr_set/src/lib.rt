@@ -7,5 +7,5 @@ mod reading;
 mod set;
 mod spans;
 
-pub use reading::{ItemFault, item_is_unique, parse_items, readings_are_unique};
+pub use reading::{ItemFault, is_item, item_is_unique, parse_items, readings_are_unique};
 pub use set::AddrSet;

@@ -1,8 +1,10 @@
 ghost use Rattle.std.specs.Prelude.{◌≡◌, ◌^◌, ◌<◌, length, IfOk};
+ghost use Rattle.std.specs.Bool.{MatchBool};
 ghost use Rattle.std.specs.List.{All, AllZip};
+ghost use Rattle.edge_base.specs.declared.expression.Item.{Item};
 ghost use Rattle.edge_base.specs.Token.{bits_of};
 ghost use Rattle.addr_set.specs.Sets.{IsAddrItem};
-ghost use Rattle.addr_set.specs.ItemTexts.{IsGoodText, IsNoItemText, IsLongPrefix, IsBackward, NamesFirst, ItemIsUnique, ReadingsAreUnique};
+ghost use Rattle.addr_set.specs.ItemTexts.{IsGoodText, IsNoItemText, IsLongPrefix, IsBackward, IsRefused, NamesFirst, ItemIsUnique, ReadingsAreUnique};
 ghost use Rattle.addr_set.specs.Readings.{Reads, ReadsJoined, ReadsRange, ReadsBlock};
 
 use edge_base::{Addr, Item, ListedItems, Lit, Texts, parse_addr};
@@ -119,6 +121,14 @@ fn item_of(text: &[u8]) -> Result<Item, Flaw>
         Some(one) => Ok(Item::One(Lit::Addr(one))),
         None => Err(Flaw::Address),
     }
+}
+
+/// Whether a text stands for an item of an address list. Takes no memory.
+#[tactic(auto, using(crate::proofs::ReadingLemmas::reading_is_ok))]
+pub fn is_item(text: &[u8]) -> bool
+    ensures { MatchBool result ((one : Item) × IsGoodText text.now one) (IsRefused text.now) }
+{
+    item_of(text).is_ok()
 }
 
 /// A law: a text stands for at most one item.
