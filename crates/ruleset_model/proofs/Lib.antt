@@ -1,0 +1,3 @@
+mod Crosses
+mod EntryLemmas
+mod SpokenLemmas

@@ -1,0 +1,10 @@
+pub mod Acts
+pub mod Built
+pub mod ConfigParts
+pub mod Data
+pub mod Entries
+pub mod FilterParts
+pub mod Forms
+pub mod Phases
+pub mod Ranges
+pub mod Valid
