@@ -26,6 +26,14 @@ abbrev pub first_given : {A : Type 0} → (Override → Option A) → List Overr
 first_given part [] = None
 first_given part (speaker ∷ speakers) = option_or (part speaker) (first_given part speakers)
 
+-- whether the entries of these names switch a rule on, or else what was said before
+abbrev pub enabled_by : (List ℕ → Bool) → List (List ℕ × Override) → Override → Option Bool
+enabled_by is_meant entries before = option_or (first_given (λ s. s.enabled) (said_of is_meant entries)) before.enabled
+
+-- the action that they give it, or else what was said before
+abbrev pub action_by : (List ℕ → Bool) → List (List ℕ × Override) → Override → Option Plain
+action_by is_meant entries before = option_or (first_given (λ s. s.action) (said_of is_meant entries)) before.action
+
 -- what a rule does where this was said: no word reaches an action that isn't plain
 abbrev pub action_after : Option Plain → Plain → Plain
 action_after said plain.Other = plain.Other

@@ -2,7 +2,7 @@ ghost use Rattle.std.specs.Prelude.{◌≡◌, ◌↔◌, bytes_eq};
 ghost use Rattle.std.specs.List.{list_any};
 ghost use Rattle.std.specs.Option.{option_or};
 ghost use Rattle.override_plan.specs.declared.plain.Plain.TheVariants as plain;
-ghost use Rattle.override_plan.specs.Speakers.{said_of, has_tag, speakers_of, first_given, action_after, effective_of};
+ghost use Rattle.override_plan.specs.Speakers.{enabled_by, action_by, has_tag, speakers_of, first_given, action_after, effective_of};
 
 use crate::overrides::{Override, Overrides};
 use crate::plain::{Effective, Plain};
@@ -28,8 +28,8 @@ fn has_tag(tags: &[Text], tag: &Text) -> bool
 
 /// What the entries of a rule say of it, on top of what was said before.
 fn heard_of_rule(before: Override, entries: &[(Text, Override)], rule: &Text) -> Override
-    ensures enabled { result.enabled ≡ option_or (first_given (λ s. s.enabled) (said_of (bytes_eq rule.now) entries.now)) before.enabled }
-    ensures action { result.action ≡ option_or (first_given (λ s. s.action) (said_of (bytes_eq rule.now) entries.now)) before.action }
+    ensures enabled { result.enabled ≡ enabled_by (bytes_eq rule.now) entries.now before }
+    ensures action { result.action ≡ action_by (bytes_eq rule.now) entries.now before }
 {
     let mut said = before;
     for (name, entry) in entries {
@@ -42,8 +42,8 @@ fn heard_of_rule(before: Override, entries: &[(Text, Override)], rule: &Text) ->
 
 /// What the entries of its tags say of a rule, on top of what was said before.
 fn heard_of_tags(before: Override, entries: &[(Text, Override)], tags: &[Text]) -> Override
-    ensures enabled { result.enabled ≡ option_or (first_given (λ s. s.enabled) (said_of (has_tag tags.now) entries.now)) before.enabled }
-    ensures action { result.action ≡ option_or (first_given (λ s. s.action) (said_of (has_tag tags.now) entries.now)) before.action }
+    ensures enabled { result.enabled ≡ enabled_by (has_tag tags.now) entries.now before }
+    ensures action { result.action ≡ action_by (has_tag tags.now) entries.now before }
 {
     let mut said = before;
     for (name, entry) in entries {

@@ -17,7 +17,7 @@ use Rattle.type_check.specs.declared.node.BuiltTest.{BuiltTest}
 use Rattle.type_check.specs.declared.node.Node.{Node}
 use Rattle.type_check.specs.declared.node.Node.TheVariants as node
 use Rattle.type_check.specs.Trees.{test_of}
-use Rattle.type_check.specs.Values.{items_in, value_of_lit}
+use Rattle.edge_fields.specs.Values.{items_in, value_of_lit}
 use Rattle.type_check.specs.Meaning.{Setting, Sense, single, spread, alone, element_at, array_at, is_true, truth, tested, called}
 use Rattle.type_check.proofs.NodeSenses.{means-lit, means-field, means-call, means-at, means-key, means-each, means-test, means-not, means-and, means-xor, means-or}
 use Rattle.tree_eval.specs.Calls.{call_of}

@@ -6,7 +6,7 @@ use Rattle.std.proofs.lemmas.Slice.Eq.{bytes_eq-Decides}
 use Rattle.std.proofs.Math.Seq.{take-append_seam, drop-append_seam}
 use Rattle.memchr.specs.Find.{OccursAt, Nowhere, FindsNeedle}
 use Rattle.memchr.proofs.lemmas.MatchLemmas.{OccursAt-split, OccursAt-from_part}
-use Rattle.type_check.specs.Matching.{has_end, has_part}
+use Rattle.text_match.specs.Matching.{has_end, has_part}
 
 abbrev begins_with : List ℕ → List ℕ → Bool
 begins_with part rest = starts_with nat_eq rest part

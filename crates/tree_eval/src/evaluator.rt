@@ -4,7 +4,7 @@ ghost use Rattle.std.specs.Option.{option_copied};
 ghost use Rattle.list_store.specs.Listed.{list_kinds_of};
 ghost use Rattle.type_check.specs.Meaning.{tested};
 ghost use Rattle.type_check.specs.Trees.{test_of, tree_of, is_placed};
-ghost use Rattle.type_check.specs.Values.{value_of_lit};
+ghost use Rattle.edge_fields.specs.Values.{value_of_lit};
 ghost use Rattle.tree_eval.specs.Given.{tests_of, node_sense, node_senses, is_true_node, InEachOf, IsPlacedIn, ArePlacedIn};
 ghost use Rattle.tree_eval.specs.Seen.{seen};
 ghost use Rattle.tree_eval.specs.Settings.{IsValueOf, IsTruthOf};

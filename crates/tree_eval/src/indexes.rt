@@ -3,7 +3,7 @@ ghost use Rattle.std.specs.Prelude.{◌≡◌, IfOk};
 ghost use Rattle.std.specs.Option.{option_and_then};
 ghost use Rattle.edge_fields.specs.Fields.{texts};
 ghost use Rattle.type_check.specs.Meaning.{element_at, array_at};
-ghost use Rattle.type_check.specs.Values.{items_in};
+ghost use Rattle.edge_fields.specs.Values.{items_in};
 
 use edge_base::{Memory, Text};
 use edge_fields::{Value, Values};

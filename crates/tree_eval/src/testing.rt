@@ -3,10 +3,11 @@ ghost use Rattle.std.specs.Prelude.{◌≡◌, ◌<◌, ◌↔◌, ◌/◌, ◌^
 ghost use Rattle.std.specs.List.{list_any, HoldsAt};
 ghost use Rattle.std.specs.Option.{option_copied};
 ghost use Rattle.list_store.specs.Listed.{HasValue, list_kinds_of};
-ghost use Rattle.type_check.specs.Matching.{has_part};
-ghost use Rattle.type_check.specs.Tests.{is_so, is_so_same, is_ordered, is_from_to, shares_bits, is_of_item};
+ghost use Rattle.text_match.specs.Matching.{has_part};
+ghost use Rattle.type_check.specs.Tests.{is_so, is_so_same, is_ordered, is_of_item};
+ghost use Rattle.edge_base.specs.Ranges.{is_from_to, shares_bits};
 ghost use Rattle.type_check.specs.Trees.{is_placed};
-ghost use Rattle.type_check.specs.Values.{text_in, number_in, addr_in};
+ghost use Rattle.edge_fields.specs.Values.{text_in, number_in, addr_in};
 ghost use Rattle.tree_eval.specs.Passed.{IsPassed};
 
 use edge_base::{Addr, Item, Lit, Memory, Order};
