@@ -3,6 +3,7 @@ use Rattle.std.specs.Prelude.{ℕ, List, [], ◌∷◌, Option, None, Some, opti
 use Rattle.std.specs.Option.{option_map, option_zip}
 use Rattle.edge_fields.specs.declared.value.Value.{Value}
 use Rattle.edge_fields.specs.Values.{text_in}
+use Rattle.func_lib.specs.declared.arguments.ThreeTexts.{ThreeTexts}
 
 -- what an argument is that may be left out
 abbrev pub optional_of : {A : Type 0} → (Value → Option A) → Option Value → Option (Option A)
@@ -62,6 +63,10 @@ triple_of (v ∷ w ∷ x ∷ y ∷ vs) = None
 abbrev pub texts_of_three : Value × Value × Value → Option (List ℕ × List ℕ × List ℕ)
 texts_of_three args =
     option_and_then (λ a. option_and_then (λ b. option_map (λ c. (a, b, c)) (text_in args.2)) (text_in args.1)) (text_in args.0)
+
+-- the three texts themselves
+abbrev pub parts_of : ThreeTexts → List ℕ × List ℕ × List ℕ
+parts_of texts = (texts.first.now, texts.second.now, texts.third.now)
 
 -- three arguments, all texts
 abbrev pub three_texts : List Value → Option (List ℕ × List ℕ × List ℕ)

@@ -1,6 +1,7 @@
 -- What functions of arrays and maps give, those that split a text and join texts, and the length of a text.
-use Rattle.std.specs.Prelude.{ℕ, zero, suc, ◌-◌, pos, Bool, nat_eq, ◌==◌, List, [], ◌∷◌, ◌++◌, length, is_some, Option, None, Some, option_and_then, bytes_eq, if◌then◌else◌}
+use Rattle.std.specs.Prelude.{◌≡◌, ℕ, zero, suc, ◌-◌, pos, Bool, nat_eq, ◌==◌, List, [], ◌∷◌, ◌++◌, length, is_some, Option, None, Some, option_and_then, MatchOption, bytes_eq, if◌then◌else◌}
 use Rattle.std.specs.List.{list_any, list_all, flat_map, onto_first, starts_with}
+use Rattle.std.specs.Borrow.{Bor}
 use Rattle.std.specs.Map.{lookup}
 use Rattle.std.specs.Option.{option_map, option_or, option_zip}
 use Rattle.std.specs.Ordering.{int_eq}
@@ -76,9 +77,20 @@ pieces_between separator text = if length separator == 0 then text ∷ [] else p
 abbrev pub split_of : List Value → Option Value
 split_of vs = option_map (λ args. texts (pieces_between args.1 args.0)) (two_texts vs)
 
+-- what stands before the first place of a separator and what stands after it, or none where it stands nowhere
+abbrev pub IsFirstCut : List ℕ → List ℕ → Option (Bor (List ℕ) × Bor (List ℕ)) → Type 0
+IsFirstCut separator text found =
+    MatchOption found (pieces_between separator text ≡ text ∷ [])
+    (λ cut. pieces_between separator text ≡ cut.0.now ∷ pieces_between separator cut.1.now)
+
 -- texts with a separator before each
 abbrev pub after_separators : List ℕ → List (List ℕ) → List ℕ
 after_separators separator parts = flat_map (λ part. separator ++ part) parts
+
+-- bytes with values behind them, each after a separator, if all are texts
+abbrev pub with_texts_after : List ℕ → List ℕ → List Value → Option (List ℕ)
+with_texts_after bytes separator values =
+    option_map (λ parts. bytes ++ after_separators separator parts) (all_of text_in values)
 
 -- texts with a separator between each two
 abbrev pub joined : List ℕ → List (List ℕ) → List ℕ

@@ -26,6 +26,10 @@ text_and_flags vs =
     option_and_then (λ args. option_and_then (λ text. option_map (λ flags. (text, unwrap_or flags []))
     (optional_of text_in args.1)) (text_in args.0)) (one_or_two vs)
 
+-- a text by the engine that the flags choose
+abbrev pub encoded : List ℕ → List ℕ → Option (List ℕ)
+encoded flags text = option_map (λ engine. encode_of engine text) (engine_of flags)
+
 -- encode_base64: the text by the engine that the flags choose
 abbrev pub encode_base64_of : List Value → Option Value
 encode_base64_of vs =

@@ -36,7 +36,10 @@ wildcard_replace_of vs =
     option_and_then (λ args. option_map (λ pieces. value.Text (filled_or args.0.0 args.0.2 (first_takes pieces args.1 args.0.0)))
     (wild_of args.0.1)) (wildcard_arguments vs)
 
+-- a text with the first match of a pattern replaced
+abbrev pub first_replaced : List ℕ × List ℕ × List ℕ → List ℕ
+first_replaced args = replaced args.0 args.2 (first_match args.1 args.0)
+
 -- regex_replace: the text with the first match replaced
 abbrev pub regex_replace_of : List Value → Option Value
-regex_replace_of vs =
-    option_map (λ args. value.Text (replaced args.0 args.2 (first_match args.1 args.0))) (three_texts vs)
+regex_replace_of vs = option_map (λ args. value.Text (first_replaced args)) (three_texts vs)

@@ -1,5 +1,5 @@
 -- What functions of texts give.
-use Rattle.std.specs.Prelude.{ℕ, suc, ◌-◌, min, ℤ, pos, negsuc, Bool, true, false, not, ◌&&◌, nat_le, nat_eq, List, ◌∷◌, length, filter, Option, None, Some, option_and_then, codes, decimal, if◌then◌else◌}
+use Rattle.std.specs.Prelude.{ℕ, suc, ◌-◌, min, ℤ, pos, negsuc, Bool, true, false, not, ◌&&◌, nat_le, nat_eq, List, ◌∷◌, ◌++◌, length, filter, Option, None, Some, option_and_then, codes, decimal, if◌then◌else◌}
 use Rattle.std.specs.List.{list_any, between, concat, starts_with, ends_with}
 use Rattle.std.specs.Option.{option_map, option_or}
 use Rattle.std.specs.Str.{str_to_ascii_lowercase, str_to_ascii_uppercase}
@@ -80,6 +80,10 @@ string_in (open_value.Map entries) = None
 -- how a number, an address or a truth value is written
 abbrev pub string_of : Value → Option (List ℕ)
 string_of v = string_in (out-Value v)
+
+-- bytes with more behind them, if there is more
+abbrev pub behind : List ℕ → Option (List ℕ) → Option (List ℕ)
+behind bytes more = option_map (λ added. bytes ++ added) more
 
 -- to_string: the number, address or truth value as it is written
 abbrev pub to_string_of : List Value → Option Value

@@ -3,7 +3,7 @@ ghost use Rattle.std.specs.Prelude.{◌≡◌};
 ghost use Rattle.std.specs.Option.{option_map, option_copied};
 ghost use Rattle.edge_fields.specs.Values.{text_in, number_in, truth_in, items_in, entries_in};
 ghost use Rattle.func_lib.specs.Arguments.{only_of, one_text, pair_of, two_texts, two_or_three, optional_of};
-ghost use Rattle.func_lib.specs.Arguments.{one_or_two, triple_of, texts_of_three, three_texts, three_or_four};
+ghost use Rattle.func_lib.specs.Arguments.{one_or_two, triple_of, parts_of, texts_of_three, three_texts, three_or_four};
 
 use edge_base::Text;
 use edge_fields::{TextMap, Value};
@@ -99,8 +99,7 @@ pub(crate) fn texts_of_three<'a>(
     second: &'a Value,
     third: &'a Value,
 ) -> Option<ThreeTexts<'a>>
-    ensures { option_map (λ found. (found.first.now, found.second.now, found.third.now)) result
-        ≡ texts_of_three (first.now, second.now, third.now) }
+    ensures { option_map parts_of result ≡ texts_of_three (first.now, second.now, third.now) }
 {
     Some(ThreeTexts {
         first: first.as_text()?.bytes(),
@@ -111,7 +110,7 @@ pub(crate) fn texts_of_three<'a>(
 
 /// Three arguments, all texts.
 pub(crate) fn three_texts(args: &[Value]) -> Option<ThreeTexts<'_>>
-    ensures { option_map (λ found. (found.first.now, found.second.now, found.third.now)) result ≡ three_texts args.now }
+    ensures { option_map parts_of result ≡ three_texts args.now }
 {
     match args {
         [first, second, third] => texts_of_three(first, second, third),

@@ -6,7 +6,7 @@ ghost use Rattle.edge_fields.specs.declared.value.Value.TheVariants as value;
 ghost use Rattle.edge_fields.specs.Values.{text_in, truth_in};
 ghost use Rattle.func_lib.specs.Arguments.{all_of};
 ghost use Rattle.func_lib.specs.Arrays.{any_of, every_of, size_of, len_of, has_key_of, has_text, has_number, has_value_of};
-ghost use Rattle.func_lib.specs.Arrays.{pieces_between, split_of, after_separators, joined, array_and_text, join_of};
+ghost use Rattle.func_lib.specs.Arrays.{IsFirstCut, pieces_between, split_of, with_texts_after, joined, array_and_text, join_of};
 
 use crate::arguments::{only_of, pair_of, two_texts};
 use edge_base::{Memory, Text, TextBuilder};
@@ -123,8 +123,7 @@ pub(crate) fn has_value(args: &[Value]) -> Option<Value>
 #[tactic(auto, using(crate::proofs::PieceLemmas::pieces_at_none, crate::proofs::PieceLemmas::pieces_at_first))]
 fn first_cut<'a>(separator: &[u8], text: &'a [u8]) -> Option<(&'a [u8], &'a [u8])>
     requires { 0 < length separator.now }
-    ensures pieces { MatchOption result (pieces_between separator.now text.now ≡ text.now ∷ [])
-        (λ cut. pieces_between separator.now text.now ≡ cut.0.now ∷ pieces_between separator.now cut.1.now) }
+    ensures pieces { IsFirstCut separator.now text.now result }
     ensures shorter { IfSome result (λ cut. length cut.1.now < length text.now) }
 {
     let at = memmem::find(text, separator)?;
@@ -163,8 +162,7 @@ fn push_after(
     separator: &[u8],
     values: &[Value],
 ) -> Result<Option<()>, Memory>
-    ensures { IfOk result (λ found. option_map (λ _. text.new) found
-        ≡ option_map (λ parts. text.old ++ after_separators separator.now parts) (all_of text_in values.now)) }
+    ensures { IfOk result (λ found. option_map (λ _. text.new) found ≡ with_texts_after text.old separator.now values.now) }
 {
     for value in values {
         let Some(part) = value.as_text() else {

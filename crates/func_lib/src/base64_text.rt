@@ -1,8 +1,7 @@
 //! Functions of base64.
 ghost use Rattle.std.specs.Prelude.{◌≡◌, string_bytes, IfOk};
 ghost use Rattle.std.specs.Option.{option_map};
-ghost use Rattle.base64.specs.GeneralPurpose.{encode_of};
-ghost use Rattle.func_lib.specs.Base64.{engine_of, text_and_flags, encode_base64_of, decoded, decode_base64_of};
+ghost use Rattle.func_lib.specs.Base64.{encoded, text_and_flags, encode_base64_of, decoded, decode_base64_of};
 
 use crate::arguments::{one_or_two, one_text, optional_text};
 use base64::DecodeAllocError;
@@ -13,8 +12,7 @@ use std::alloc::Global;
 
 /// A text by the engine that flags choose.
 fn encoded(alloc: Global, flags: &[u8], text: &[u8]) -> Result<Option<String>, Memory>
-    ensures { IfOk result (λ found. option_map string_bytes found
-        ≡ option_map (λ engine. encode_of engine text.now) (engine_of flags.now)) }
+    ensures { IfOk result (λ found. option_map string_bytes found ≡ encoded flags.now text.now) }
 {
     if flags.is_empty() {
         Ok(Some(STANDARD_NO_PAD.encode(alloc, text)?))

@@ -1,10 +1,10 @@
 //! Functions that replace.
 ghost use Rattle.std.specs.Prelude.{◌≡◌, IfOk};
 ghost use Rattle.std.specs.Option.{option_map, option_copied};
-ghost use Rattle.text_match.specs.Patterns.{first_match, replaced};
 ghost use Rattle.text_match.specs.Takes.{first_takes, TakesAreFirst};
 ghost use Rattle.func_lib.specs.Replacing.{strict_of, wildcard_arguments, wild_of, filled_or, wildcard_replace_of};
-ghost use Rattle.func_lib.specs.Replacing.{regex_replace_of};
+ghost use Rattle.func_lib.specs.Replacing.{first_replaced, regex_replace_of};
+ghost use Rattle.func_lib.specs.Arguments.{parts_of};
 
 use crate::arguments::{ThreeTexts, optional_text, texts_of_three, three_texts};
 use edge_base::{Memory, Text, Texts};
@@ -68,8 +68,7 @@ fn strict_of(flags: Option<&[u8]>) -> Option<bool>
 
 /// A text, a wildcard, a replacement, and whether the wildcard is strict.
 fn wildcard_arguments(args: &[Value]) -> Option<(ThreeTexts<'_>, bool)>
-    ensures { option_map (λ found. ((found.0.first.now, found.0.second.now, found.0.third.now), found.1)) result
-        ≡ wildcard_arguments args.now }
+    ensures { option_map (λ found. (parts_of found.0, found.1)) result ≡ wildcard_arguments args.now }
 {
     let (texts, flags) = match args {
         [text, pattern, replacement] => (texts_of_three(text, pattern, replacement)?, None),
@@ -99,7 +98,7 @@ pub(crate) fn wildcard_replace(alloc: Global, args: &[Value]) -> Result<Option<V
 
 /// The text with the first match of a pattern replaced. A pattern that `regex` refuses is answered as want of memory.
 fn first_replaced(alloc: Global, texts: &ThreeTexts<'_>) -> Result<Text, Memory>
-    ensures { IfOk result (λ whole. whole ≡ replaced texts.now.first.now texts.now.third.now (first_match texts.now.second.now texts.now.first.now)) }
+    ensures { IfOk result (λ whole. whole ≡ first_replaced (parts_of texts.now)) }
 {
     match Pattern::build(alloc, texts.second) {
         Ok(pattern) => pattern.replace_first(alloc, texts.first, texts.third),

@@ -4,7 +4,7 @@ ghost use Rattle.std.specs.List.{concat};
 ghost use Rattle.std.specs.Option.{option_map};
 ghost use Rattle.std.specs.Str.{str_to_ascii_lowercase, str_to_ascii_uppercase};
 ghost use Rattle.func_lib.specs.Texts.{lower_of, upper_of, place_in, end_in, part_of, text_and_places, substring_of, without, remove_bytes_of};
-ghost use Rattle.func_lib.specs.Texts.{starts_with_of, ends_with_of, signed, truth_word, string_of, to_string_of, written_of, concat_of};
+ghost use Rattle.func_lib.specs.Texts.{starts_with_of, ends_with_of, signed, truth_word, string_of, behind, to_string_of, written_of, concat_of};
 ghost use Rattle.func_lib.specs.Arguments.{all_of};
 
 use crate::arguments::{one_text, only_of, optional_number, two_or_three, two_texts};
@@ -163,7 +163,7 @@ fn truth_word(truth: bool) -> &'static [u8]
 
 /// Writes a number, an address or a truth value; gives nothing for another value.
 fn push_string(alloc: Global, text: &mut TextBuilder, value: &Value) -> Result<Option<()>, Memory>
-    ensures { IfOk result (λ found. option_map (λ _. text.new) found ≡ option_map (λ string. text.old ++ string) (string_of value.now)) }
+    ensures { IfOk result (λ found. option_map (λ _. text.new) found ≡ behind text.old (string_of value.now)) }
 {
     match value {
         Value::Num(number) => push_signed(text, *number)?,
@@ -190,7 +190,7 @@ pub(crate) fn to_string(alloc: Global, args: &[Value]) -> Result<Option<Value>, 
 
 /// Writes a text as it is, and another value as `to_string` does.
 fn push_written(alloc: Global, text: &mut TextBuilder, value: &Value) -> Result<Option<()>, Memory>
-    ensures { IfOk result (λ found. option_map (λ _. text.new) found ≡ option_map (λ written. text.old ++ written) (written_of value.now)) }
+    ensures { IfOk result (λ found. option_map (λ _. text.new) found ≡ behind text.old (written_of value.now)) }
 {
     match value {
         Value::Text(bytes) => {

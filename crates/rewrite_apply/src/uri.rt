@@ -76,7 +76,7 @@ fn joined(
     query: Option<&Text>,
     request: &Request,
 ) -> Result<Text, Memory>
-    ensures { IfOk result (λ text. text ≡ joined (option_copied path.entry) (option_copied query.entry) request.now.target) }
+    ensures { IfOk result (λ t. t ≡ joined (option_copied path.entry) (option_copied query.entry) request.now.target) }
 {
     let query = query_after(alloc, query, request)?;
     let mut target = TextBuilder::new(alloc);
