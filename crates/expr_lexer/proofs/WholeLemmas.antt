@@ -174,7 +174,7 @@ token_or_none_at text at = token_from text at (longest_or_none (length (drop at 
 
 -- ---- the whole text
 
-abbrev CutOrFault : List ℕ → Type 0
+abbrev pub CutOrFault : List ℕ → Type 0
 CutOrFault text = ((tokens : List Token) × IsCut text tokens) ⊎ ((at : ℕ) × IsFirstFault text at)
 
 module _ (text : List ℕ) where
@@ -209,5 +209,9 @@ uncut : (text : List ℕ) → CutOrFault text → ((tokens : List Token) → ¬ 
 uncut text (inl (tokens, cut)) none = absurd (none tokens cut)
 uncut text (inr fault) none = fault
 
+-- each text has a cut or a place of fault
+pub cut_or_fault : (text : List ℕ) → CutOrFault text
+cut_or_fault text = cut_on text (length text) 0 [] (omega arith) (omega arith) (omega arith, refl)
+
 pub uncut_have_faults : UncutHaveFaults
-uncut_have_faults text none = uncut text (cut_on text (length text) 0 [] (omega arith) (omega arith) (omega arith, refl)) none
+uncut_have_faults text none = uncut text (cut_or_fault text) none

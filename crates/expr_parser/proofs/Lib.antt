@@ -7,6 +7,7 @@ pub mod CutInto
 pub mod CutTokens
 pub mod DepthLemmas
 pub mod Dots
+pub mod EachAnswered
 pub mod Faults
 pub mod FewestPairs
 pub mod LongestWhere

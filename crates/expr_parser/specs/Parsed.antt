@@ -42,3 +42,10 @@ IsAnswer text (Err fault.Memory) = Unit {0}
 -- a text has one answer, but for want of memory
 abbrev pub AnswersAreUnique : Type 0
 AnswersAreUnique = (text : List ℕ) (a b : Result Expr ParseFault) → IsAnswer text a → IsAnswer text b → a ≢ Err fault.Memory → b ≢ Err fault.Memory → a ≡ b
+
+-- an answer other than want of memory
+abbrev pub HasAnswer : List ℕ → Type 0
+HasAnswer text = (answer : Result Expr ParseFault) × (answer ≢ Err fault.Memory) × IsAnswer text answer
+
+abbrev pub EachTextHasAnAnswer : Type 0
+EachTextHasAnAnswer = (text : List ℕ) → HasAnswer text

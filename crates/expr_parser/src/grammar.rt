@@ -1,6 +1,6 @@
 ghost use Rattle.std.specs.Prelude.{◌≡◌, ◌≤◌, length};
 ghost use Rattle.edge_base.specs.Cut.{IsCut};
-ghost use Rattle.expr_parser.specs.Parsed.{AreTokensOf, place_of, IsAnswer, AnswersAreUnique};
+ghost use Rattle.expr_parser.specs.Parsed.{AreTokensOf, place_of, IsAnswer, AnswersAreUnique, EachTextHasAnAnswer};
 
 use crate::depth::nesting;
 use crate::reading::{Reading, fault_of, read};
@@ -95,3 +95,8 @@ pub fn answers_are_unique()
     cuts_are_unique();
     faults_are_unique();
 }
+
+/// Each text has an answer other than want of memory.
+pub fn each_text_has_an_answer()
+    ensures { EachTextHasAnAnswer }
+{}

@@ -1,26 +1,24 @@
 -- A line is at most one item, with one value, and what it is can be told of each line.
 use mathlib.Core.HLevel.{is_prop→PathP}
 use Rattle.std.proofs.Math.Bridge.{le_prop}
-use Rattle.std.proofs.Common.{◌≡◌, ◌≤◌, ℕ, ◌==◌, ◌⊎◌, inl, inr, Bool, true, false, cond, List, [], ◌∷◌, Option, Some, None, refl, sym, ◌∙◌, ap, subst, append-nil, codes, lit≤, arith}
+use Rattle.std.proofs.Common.{◌≡◌, ◌≤◌, ℕ, ◌+◌, ◌==◌, ◌⊎◌, inl, inr, Bool, true, false, cond, List, [], ◌∷◌, Option, Some, None, refl, sym, ◌∙◌, ap, subst, append-nil, codes, bytes_eq, option_and_then, lit≤, arith}
 use Rattle.std.specs.Option.{option_map_or}
 use Rattle.std.specs.Str.{is_utf8}
 use Rattle.std.proofs.lemmas.Bool.{both_ways, eqb-true}
 use Rattle.std.proofs.lemmas.Option.{none-some, same_Some}
 use Rattle.std.proofs.lemmas.Str.{IsUtf8-from_is_utf8, is_utf8-from_IsUtf8}
-use Rattle.std.specs.Net.Grammar.{IsDotted}
-use Rattle.edge_base.specs.Address.{number_in_base, IsAddrText}
+use Rattle.edge_base.specs.Address.{IsAddrText}
 use Rattle.edge_base.proofs.AddressLemmas.{IsAddrText-unique}
-use Rattle.edge_base.proofs.FoundLemmas.{Found, found-dotted}
+use Rattle.edge_base.proofs.FoundLemmas.{Found, found-address}
 use Rattle.serde_json.specs.Data.{Data, Members}
 use Rattle.serde_json.specs.Read.{read}
-use Rattle.serde_json.specs.Find.{as_object}
+use Rattle.serde_json.specs.Find.{get, as_object, as_str}
 use Rattle.serde_json.specs.Events.{members_len}
 use Rattle.edge_base.specs.declared.message.Header.{Header}
 use Rattle.edge_base.specs.declared.message.Request.{Request}
 use Rattle.edge_base.specs.declared.address.Addr.{Addr}
-use Rattle.edge_base.specs.declared.address.Addr.TheVariants as addr
 use Rattle.trace_form.specs.Members.{has_members, text_of}
-use Rattle.trace_form.specs.Asked.{moment_of, IsPeer, method_of, target_of, headers_of, IsRequest}
+use Rattle.trace_form.specs.Asked.{moment_of, IsPeer, member_or, ssl_of, minor_in, minor_of, count_there, has_request_members, method_of, target_of, headers_of, IsRequest}
 use Rattle.trace_form.specs.Item.{is_short, is_blank, IsJson, deployed_of, IsBlank, IsDeploy, IsAsk, IsNoItem, IsNoValueItem}
 
 -- ---- what a line that holds no item is
@@ -61,7 +59,10 @@ tested false found value e = absurd (none-some value e)
 
 deployed-not_request : (value deployed : Data) (request : Request) → deployed_of value ≡ Some deployed → ¬ (IsRequest value request)
 deployed-not_request value deployed request is_deployed is_request =
-    let one : 1 ≡ 5 = counts_apart (as_object value) 1 5 (tested (has_members 1 value) _ deployed is_deployed) is_request.five in
+    let ssl = count_there (get (codes "ssl") value) in
+    let version = count_there (get (codes "version") value) in
+    let one : 1 ≡ 5 + ssl + version =
+    counts_apart (as_object value) 1 (5 + ssl + version) (tested (has_members 1 value) _ deployed is_deployed) is_request.members in
     omega (arith, one)
 
 pub deploy-not_ask : (line : List ℕ) (deployed : Data) (request : Request) → IsDeploy line deployed → ¬ (IsAsk line request)
@@ -72,11 +73,9 @@ pub IsDeploy-unique : (line : List ℕ) (a b : Data) → IsDeploy line a → IsD
 IsDeploy-unique line a b is_a is_b = same_Some a b (sym is_a.deploy ∙ deployed-of_line line is_a.value b is_a.json is_b)
 
 IsPeer-unique : (value : Data) (a b : Addr) → IsPeer value a → IsPeer value b → a ≡ b
-IsPeer-unique value (addr.V4 m) (addr.V4 n) is_m is_n =
-    let same_text = same_Some is_n.0 is_m.0 (sym is_n.1 ∙ is_m.1) in
-    IsAddrText-unique is_m.0 (addr.V4 m) (addr.V4 n) is_m.2 (subst (λ text. IsAddrText text (addr.V4 n)) same_text is_n.2)
-IsPeer-unique value (addr.V4 m) (addr.V6 n) is_m is_n = absurd is_n
-IsPeer-unique value (addr.V6 m) b is_m is_b = absurd is_m
+IsPeer-unique value a b is_a is_b =
+    let same_text = same_Some is_b.0 is_a.0 (sym is_b.1 ∙ is_a.1) in
+    IsAddrText-unique is_a.0 a b is_a.2 (subst (λ text. IsAddrText text b) same_text is_b.2)
 
 IsRequest-unique : (value : Data) (a b : Request) → IsRequest value a → IsRequest value b → a ≡ b
 IsRequest-unique value a b is_a is_b =
@@ -85,8 +84,8 @@ IsRequest-unique value a b is_a is_b =
     let method = same_Some a.method b.method (sym is_a.method ∙ is_b.method) in
     let target = same_Some a.target b.target (sym is_a.target ∙ is_b.target) in
     let headers = same_Some a.headers b.headers (sym is_a.headers ∙ is_b.headers) in
-    let ssl = is_a.ssl ∙ sym is_b.ssl in
-    let minor = is_a.minor ∙ sym is_b.minor in
+    let ssl = same_Some a.ssl b.ssl (sym is_a.ssl ∙ is_b.ssl) in
+    let minor = same_Some a.minor b.minor (sym is_a.minor ∙ is_b.minor) in
     let body = is_a.body ∙ sym is_b.body in
     let within = is_prop→PathP (λ i. minor i ≤ 1) (λ i. le_prop) a.within b.within in
     λ i. record { at = at i; from = from i; ssl = ssl i; method = method i; target = target i; minor = minor i; headers = headers i; body = body i; within = within i }
@@ -106,42 +105,59 @@ found-json line = of_test (is_utf8 line) refl (read line) refl where
 
 found-peer : (value : Data) → Found (IsPeer value)
 found-peer value = of_text (text_of (codes "ip") value) refl where
-  of_addr : (text : List ℕ) → text_of (codes "ip") value ≡ Some text → Found (IsDotted text) → Found (IsPeer value)
-  of_addr text is_text (inl (octets, is)) = inl (addr.V4 (number_in_base 256 octets), (text, is_text, (octets, is, refl)))
-  of_addr text is_text (inr none) = inr (λ peer. not_peer peer) where
-    not_peer : (peer : Addr) → ¬ (IsPeer value peer)
-    not_peer (addr.V4 n) is_n =
-        none is_n.2.0 (subst (λ t. IsDotted t is_n.2.0) (same_Some is_n.0 text (sym is_n.1 ∙ is_text)) is_n.2.1)
-    not_peer (addr.V6 n) is_n = is_n
+  of_addr : (text : List ℕ) → text_of (codes "ip") value ≡ Some text → Found (IsAddrText text) → Found (IsPeer value)
+  of_addr text is_text (inl (peer, is_addr)) = inl (peer, (text, is_text, is_addr))
+  of_addr text is_text (inr none) =
+      inr (λ peer is. none peer (subst (λ t. IsAddrText t peer) (same_Some is.0 text (sym is.1 ∙ is_text)) is.2))
 
   of_text : (text : Option (List ℕ)) → text_of (codes "ip") value ≡ text → Found (IsPeer value)
-  of_text None is_none = inr (λ peer. not_peer peer) where
-    not_peer : (peer : Addr) → ¬ (IsPeer value peer)
-    not_peer (addr.V4 n) is_n = none-some is_n.0 (sym is_none ∙ is_n.1)
-    not_peer (addr.V6 n) is_n = is_n
-  of_text (Some text) is_text = of_addr text is_text (found-dotted text)
+  of_text None is_none = inr (λ peer is. none-some is.0 (sym is_none ∙ is.1))
+  of_text (Some text) is_text = of_addr text is_text (found-address text)
 
-request-of_parts : (value : Data) (five : Bool) (at : Option ℕ) (peer : Found (IsPeer value)) (method target : Option (List ℕ)) (headers : Option (List Header)) → has_members 5 value ≡ five → moment_of value ≡ at → method_of value ≡ method → target_of value ≡ target → headers_of value ≡ headers → Found (IsRequest value)
-request-of_parts value false at peer method target headers is_five is_at is_method is_target is_headers =
-    inr (λ r is. both_ways (has_members 5 value) is_five is.five)
-request-of_parts value true None peer method target headers is_five is_at is_method is_target is_headers =
-    inr (λ r is. none-some r.at (sym is_at ∙ is.at))
-request-of_parts value true (Some at) (inr none) method target headers is_five is_at is_method is_target is_headers =
-    inr (λ r is. none r.from is.from)
-request-of_parts value true (Some at) (inl (from, is_from)) None target headers is_five is_at is_method is_target is_headers =
-    inr (λ r is. none-some r.method (sym is_method ∙ is.method))
-request-of_parts value true (Some at) (inl (from, is_from)) (Some method) None headers is_five is_at is_method is_target is_headers =
-    inr (λ r is. none-some r.target (sym is_target ∙ is.target))
-request-of_parts value true (Some at) (inl (from, is_from)) (Some method) (Some target) None is_five is_at is_method is_target is_headers =
-    inr (λ r is. none-some r.headers (sym is_headers ∙ is.headers))
-request-of_parts value true (Some at) (inl (from, is_from)) (Some method) (Some target) (Some headers) is_five is_at is_method is_target is_headers =
-    let request : Request = record { at = at; from = from; ssl = false; method = method; target = target; minor = 1; headers = headers; body = []; within = omega arith } in
-    let is_request : IsRequest value request = record { five = is_five; at = is_at; from = is_from; method = is_method; target = is_target; headers = is_headers; ssl = refl; minor = refl; body = refl } in
+-- the last number of a version is 0 or 1
+minor-within : (value : Data) (minor : ℕ) → minor_of value ≡ Some minor → minor ≤ 1
+minor-within value minor is_minor = of_member (get (codes "version") value) is_minor where
+  of_tests : (first second : Bool) → cond first (Some 0) (cond second (Some 1) None) ≡ Some minor → minor ≤ 1
+  of_tests true second is = subst (λ m. m ≤ 1) (same_Some 0 minor is) (lit≤ tt)
+  of_tests false true is = subst (λ m. m ≤ 1) (same_Some 1 minor is) (lit≤ tt)
+  of_tests false false is = absurd (none-some minor is)
+
+  of_text : (text : Option (List ℕ)) → option_and_then minor_in text ≡ Some minor → minor ≤ 1
+  of_text None is = absurd (none-some minor is)
+  of_text (Some text) is = of_tests (bytes_eq text (codes "HTTP/1.0")) (bytes_eq text (codes "HTTP/1.1")) is
+
+  of_member : (member : Option Data) → member_or 1 (λ version. option_and_then minor_in (as_str version)) member ≡ Some minor → minor ≤ 1
+  of_member None is = subst (λ m. m ≤ 1) (same_Some 1 minor is) (lit≤ tt)
+  of_member (Some version) is = of_text (as_str version) is
+
+-- what a request has beside its members' names and its peer
+record Parts (value : Data) (at : Option ℕ) (ssl : Option Bool) (minor : Option ℕ) (method target : Option (List ℕ)) (headers : Option (List Header)) : Type 0 where
+  at_is : moment_of value ≡ at
+  ssl_is : ssl_of value ≡ ssl
+  minor_is : minor_of value ≡ minor
+  method_is : method_of value ≡ method
+  target_is : target_of value ≡ target
+  headers_is : headers_of value ≡ headers
+
+request-of_parts : (value : Data) (members : Bool) (peer : Found (IsPeer value)) (at : Option ℕ) (ssl : Option Bool) (minor : Option ℕ) (method target : Option (List ℕ)) (headers : Option (List Header)) → has_request_members value ≡ members → Parts value at ssl minor method target headers → Found (IsRequest value)
+request-of_parts value false peer at ssl minor method target headers has parts = inr (λ r is. both_ways (has_request_members value) has is.members)
+request-of_parts value true (inr none) at ssl minor method target headers has parts = inr (λ r is. none r.from is.from)
+request-of_parts value true (inl from) None ssl minor method target headers has parts = inr (λ r is. none-some r.at (sym parts.at_is ∙ is.at))
+request-of_parts value true (inl from) (Some at) None minor method target headers has parts = inr (λ r is. none-some r.ssl (sym parts.ssl_is ∙ is.ssl))
+request-of_parts value true (inl from) (Some at) (Some ssl) None method target headers has parts = inr (λ r is. none-some r.minor (sym parts.minor_is ∙ is.minor))
+request-of_parts value true (inl from) (Some at) (Some ssl) (Some minor) None target headers has parts = inr (λ r is. none-some r.method (sym parts.method_is ∙ is.method))
+request-of_parts value true (inl from) (Some at) (Some ssl) (Some minor) (Some method) None headers has parts = inr (λ r is. none-some r.target (sym parts.target_is ∙ is.target))
+request-of_parts value true (inl from) (Some at) (Some ssl) (Some minor) (Some method) (Some target) None has parts = inr (λ r is. none-some r.headers (sym parts.headers_is ∙ is.headers))
+request-of_parts value true (inl (from, is_from)) (Some at) (Some ssl) (Some minor) (Some method) (Some target) (Some headers) has parts =
+    let request : Request = record { at = at; from = from; ssl = ssl; method = method; target = target; minor = minor; headers = headers; body = []; within = minor-within value minor parts.minor_is } in
+    let is_request : IsRequest value request = record { members = has; at = parts.at_is; from = is_from; ssl = parts.ssl_is; method = parts.method_is; target = parts.target_is; minor = parts.minor_is; headers = parts.headers_is; body = refl } in
     inl (request, is_request)
 
 found-request : (value : Data) → Found (IsRequest value)
 found-request value =
-    request-of_parts value (has_members 5 value) (moment_of value) (found-peer value) (method_of value) (target_of value) (headers_of value) refl refl refl refl refl
+    request-of_parts value (has_request_members value) (found-peer value) (moment_of value) (ssl_of value) (minor_of value) (method_of value)
+    (target_of value) (headers_of value) refl
+    (record { at_is = refl; ssl_is = refl; minor_is = refl; method_is = refl; target_is = refl; headers_is = refl })
 
 -- what a line is
 pub data Kind (line : List ℕ) : Type 0 where

@@ -1,14 +1,13 @@
 -- The request that an object of a line tells.
-use Rattle.std.specs.Prelude.{◌≡◌, ℕ, ◌^◌, Bool, true, false, ◌&&◌, not, ◌==◌, nat_lt, nat_le, cond, List, [], ◌∷◌, length, codes, Option, Some, None, option_and_then, option_map}
+use Rattle.std.specs.Prelude.{◌≡◌, ℕ, ◌+◌, ◌^◌, Bool, true, false, ◌&&◌, not, ◌==◌, nat_lt, nat_le, cond, List, [], ◌∷◌, length, codes, Option, Some, None, option_and_then, option_map, bytes_eq}
 use Rattle.std.specs.Bool.{then_some}
 use Rattle.std.specs.List.{list_all}
 use Rattle.serde_json.specs.Data.{Data, Items, no_items, item}
-use Rattle.serde_json.specs.Find.{get, at as element, as_str, as_number, as_u64}
+use Rattle.serde_json.specs.Find.{get, at as element, as_bool, as_str, as_number, as_u64}
 use Rattle.serde_json.specs.Events.{items_len}
 use Rattle.edge_base.specs.declared.message.Header.{Header}
 use Rattle.edge_base.specs.declared.message.Request.{Request}
 use Rattle.edge_base.specs.declared.address.Addr.{Addr}
-use Rattle.edge_base.specs.declared.address.Addr.TheVariants as addr
 use Rattle.edge_base.specs.Address.{IsAddrText}
 use Rattle.trace_form.specs.Members.{has_members, has_items, text_of, array_of, is_token}
 use Rattle.edge_base.specs.Bytes.{nul, newline, carriage_return, space, delete}
@@ -17,10 +16,36 @@ use Rattle.edge_base.specs.Bytes.{nul, newline, carriage_return, space, delete}
 abbrev pub moment_of : Data → Option ℕ
 moment_of value = option_and_then (λ n. then_some (nat_le n (2 ^ 53)) n) (option_and_then as_u64 (option_and_then as_number (get (codes "at") value)))
 
--- the peer: the text of a V4 address
+-- the peer: the text of an address
 abbrev pub IsPeer : Data → Addr → Type 0
-IsPeer value (addr.V4 n) = (text : List ℕ) × (text_of (codes "ip") value ≡ Some text) × IsAddrText text (addr.V4 n)
-IsPeer value (addr.V6 n) = ⊥
+IsPeer value peer = (text : List ℕ) × (text_of (codes "ip") value ≡ Some text) × IsAddrText text peer
+
+-- a member that may be left out: what it is read as, or the default
+abbrev pub member_or : {A : Type 0} → A → (Data → Option A) → Option Data → Option A
+member_or default reading None = Some default
+member_or default reading (Some member) = reading member
+
+-- whether it came over TLS, by default not
+abbrev pub ssl_of : Data → Option Bool
+ssl_of value = member_or false as_bool (get (codes "ssl") value)
+
+-- the last number of a version
+abbrev pub minor_in : List ℕ → Option ℕ
+minor_in text = cond (bytes_eq text (codes "HTTP/1.0")) (Some 0) (cond (bytes_eq text (codes "HTTP/1.1")) (Some 1) None)
+
+-- the last number of the version, by default of HTTP/1.1
+abbrev pub minor_of : Data → Option ℕ
+minor_of value = member_or 1 (λ version. option_and_then minor_in (as_str version)) (get (codes "version") value)
+
+-- how many members of a name there are
+abbrev pub count_there : Option Data → ℕ
+count_there None = 0
+count_there (Some member) = 1
+
+-- the value is an object of five members, and of `ssl` and `version` where they are there
+abbrev pub has_request_members : Data → Bool
+has_request_members value =
+    has_members (5 + count_there (get (codes "ssl") value) + count_there (get (codes "version") value)) value
 
 -- a token of at most 32 bytes
 abbrev pub is_method : List ℕ → Bool
@@ -70,14 +95,14 @@ headers_of value = option_and_then
     (λ items. cond (nat_le (items_len items) 100) (headers_from items) None)
     (array_of (codes "headers") value)
 
--- the value is an object of the five members of a request, and this is the request
+-- the value is an object of the members of a request and no others, and this is the request
 pub record IsRequest (value : Data) (request : Request) : Type 0 where
-  pub five : has_members 5 value ≡ true
+  pub members : has_request_members value ≡ true
   pub at : moment_of value ≡ Some request.at
   pub from : IsPeer value request.from
+  pub ssl : ssl_of value ≡ Some request.ssl
   pub method : method_of value ≡ Some request.method
   pub target : target_of value ≡ Some request.target
+  pub minor : minor_of value ≡ Some request.minor
   pub headers : headers_of value ≡ Some request.headers
-  pub ssl : request.ssl ≡ false
-  pub minor : request.minor ≡ 1
   pub body : request.body ≡ []

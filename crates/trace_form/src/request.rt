@@ -1,16 +1,16 @@
-ghost use Rattle.std.specs.Prelude.{◌≡◌, option_map, IfOk, MatchOption};
+ghost use Rattle.std.specs.Prelude.{◌≡◌, ◌≤◌, option_map, IfOk, IfSome, MatchOption};
+ghost use Rattle.serde_json.specs.Find.{get};
 ghost use Rattle.std.specs.List.{list_all};
 ghost use Rattle.serde_json.specs.View.{view};
 ghost use Rattle.edge_base.specs.declared.message.Request.{Request};
 ghost use Rattle.edge_base.specs.declared.address.Addr.{Addr};
-ghost use Rattle.trace_form.specs.Asked.{is_method, is_target_byte, is_target, moment_of, IsPeer, method_of, target_of, IsRequest};
+ghost use Rattle.trace_form.specs.Asked.{is_method, is_target_byte, is_target, moment_of, IsPeer, ssl_of, minor_in, minor_of, count_there, has_request_members, method_of, target_of, IsRequest};
 
 use crate::headers::headers_of;
 use crate::members::{has_members, is_token, text_of};
-use edge_base::{Addr, Memory, Moment, Request, Text};
+use edge_base::{Addr, Memory, Moment, Request, Text, parse_addr};
 use serde_json::Value;
 use std::alloc::Global;
-use std::net::Ipv4Addr;
 
 /// The longest method and the longest target, in bytes.
 const MAX_METHOD: usize = 32;
@@ -47,11 +47,61 @@ fn moment_of(value: &Value) -> Option<Moment>
 fn peer_of(value: &Value) -> Option<Addr>
     ensures { MatchOption result ((peer : Addr) → ¬ (IsPeer (view value.now) peer)) (λ peer. IsPeer (view value.now) peer) }
 {
-    let text = text_of(value, "ip")?;
-    match Ipv4Addr::parse_ascii(text) {
-        Ok(addr) => Some(Addr::V4(addr.to_bits())),
-        Err(_) => None,
+    parse_addr(text_of(value, "ip")?)
+}
+
+/// Whether the request came over TLS.
+fn ssl_of(value: &Value) -> Option<bool>
+    ensures { result ≡ ssl_of (view value.now) }
+{
+    match value.get("ssl") {
+        None => Some(false),
+        Some(ssl) => ssl.as_bool(),
     }
+}
+
+/// The last number of a version.
+fn minor_in(text: &[u8]) -> Option<u8>
+    ensures value { result ≡ minor_in text.now }
+    ensures within { IfSome result (λ minor. minor ≤ 1) }
+{
+    if text == b"HTTP/1.0".as_slice() {
+        Some(0)
+    } else if text == b"HTTP/1.1".as_slice() {
+        Some(1)
+    } else {
+        None
+    }
+}
+
+/// The last number of the request's version.
+fn minor_of(value: &Value) -> Option<u8>
+    ensures value { result ≡ minor_of (view value.now) }
+    ensures within { IfSome result (λ minor. minor ≤ 1) }
+{
+    match value.get("version") {
+        None => Some(1),
+        Some(version) => minor_in(version.as_str()?.as_bytes()),
+    }
+}
+
+/// How many members of this name there are.
+fn count_there(value: &Value, name: &str) -> usize
+    ensures count { result ≡ count_there (get name.now (view value.now)) }
+    ensures within { result ≤ 1 }
+{
+    match value.get(name) {
+        None => 0,
+        Some(_) => 1,
+    }
+}
+
+/// Whether the value is an object of so many members as a request has that tells what this one tells.
+fn has_request_members(value: &Value) -> bool
+    ensures { result ≡ has_request_members (view value.now) }
+{
+    let told = count_there(value, "ssl") + count_there(value, "version");
+    has_members(value, 5 + told)
 }
 
 fn method_of(value: &Value) -> Option<&[u8]>
@@ -72,13 +122,19 @@ fn target_of(value: &Value) -> Option<&[u8]>
 pub(crate) fn request_of(alloc: Global, value: Value) -> Result<Option<Request>, Memory>
     ensures { IfOk result (λ found. MatchOption found ((request : Request) → ¬ (IsRequest (view value) request)) (λ request. IsRequest (view value) request)) }
 {
-    if !has_members(&value, 5) {
+    if !has_request_members(&value) {
         return Ok(None);
     }
     let Some(at) = moment_of(&value) else {
         return Ok(None);
     };
     let Some(from) = peer_of(&value) else {
+        return Ok(None);
+    };
+    let Some(ssl) = ssl_of(&value) else {
+        return Ok(None);
+    };
+    let Some(minor) = minor_of(&value) else {
         return Ok(None);
     };
     let Some(method) = method_of(&value) else {
@@ -95,10 +151,10 @@ pub(crate) fn request_of(alloc: Global, value: Value) -> Result<Option<Request>,
     Ok(Some(Request {
         at,
         from,
-        ssl: false,
+        ssl,
         method,
         target,
-        minor: 1,
+        minor,
         headers,
         body: Text::from_vec(Vec::new(alloc)),
     }))

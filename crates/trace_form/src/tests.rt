@@ -11,7 +11,7 @@ use std::test::Fail;
 /// A line, and what it is.
 type Row = (&'static str, &'static str);
 
-const ROWS: [Row; 20] = [
+const ROWS: [Row; 21] = [
     ("", "blank"),
     (" \t\r", "blank"),
     (r#"{"deploy":{"rulesets":[]}}"#, "deploy"),
@@ -44,11 +44,15 @@ const ROWS: [Row; 20] = [
         "bad",
     ),
     (
-        r#"{"at":0,"ip":"10.0.0.1","method":"GET","target":"/","headers":[],"ssl":true}"#,
+        r#"{"at":0,"ip":"::1","method":"GET","target":"/","headers":[],"ssl":true,"version":"HTTP/1.0"}"#,
+        "ask",
+    ),
+    (
+        r#"{"at":0,"ip":"::1","method":"GET","target":"/","headers":[],"version":"HTTP/2"}"#,
         "bad",
     ),
     (
-        r#"{"at":0,"ip":"::1","method":"GET","target":"/","headers":[]}"#,
+        r#"{"at":0,"ip":"::1","method":"GET","target":"/","headers":[],"raw":""}"#,
         "bad",
     ),
     (
