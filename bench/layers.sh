@@ -1,5 +1,6 @@
 #!/usr/bin/env bash
-# Measures one call of each layer by the program `edge_bench`, and how a wildcard's time grows with the text.
+# Measures one call of each layer by the program `edge_bench`, and how a wildcard's time grows with the text. Steps on lanes
+# stand beside those of a plain Rust counter (bench/lanes), where cargo is there.
 # usage: bench/layers.sh      needs: the built program (`rt run` in crates/edge_bench) and python3
 # Each bench runs five times without a round and five times with many, by turns. A call's time is the difference of the two
 # over the number of rounds, so that starting and building don't count. It includes picking what is asked for, some ns.
@@ -8,15 +9,20 @@ here=$(cd "$(dirname "$0")" && pwd)
 program=$here/../crates/edge_bench/out/edge_bench
 command -v python3 >/dev/null || { echo "layers: no python3 here; left out"; exit 0; }
 [ -x "$program" ] || { echo "layers: the program isn't built; left out"; exit 0; }
+plain=
+if command -v cargo >/dev/null; then
+  (cd "$here/lanes" && cargo build --release --offline --quiet)
+  plain=$here/lanes/target/release/lanes
+fi
 
-python3 - "$program" <<'P'
+python3 - "$program" "$plain" <<'P'
 import os, statistics, subprocess, sys, time
-program = sys.argv[1]
+edge, plain = sys.argv[1], sys.argv[2]
 runs = 5
 # How long the rounds of one run take at least, and how many there are at most.
 long_enough, most_rounds = 0.25, 2 ** 30
 
-def run(name, size, rounds):
+def run(name, size, rounds, program=edge):
     begun = time.perf_counter()
     child = subprocess.Popen([program, name, str(size), str(rounds)], stdout=subprocess.PIPE)
     said = child.stdout.read().decode()
@@ -25,24 +31,24 @@ def run(name, size, rounds):
     child.returncode = os.waitstatus_to_exitcode(status)
     if child.returncode != 0:
         sys.exit('layers: %s %d %d ended with status %d' % (name, size, rounds, child.returncode))
-    return took, used.ru_utime + used.ru_stime, said
+    return took, used.ru_utime + used.ru_stime, said, used.ru_maxrss
 
-def rounds_for(name, size):
-    rounds, without = 1, run(name, size, 0)[0]
+def rounds_for(name, size, program):
+    rounds, without = 1, run(name, size, 0, program)[0]
     while rounds < most_rounds:
-        took = run(name, size, rounds)[0] - without
+        took = run(name, size, rounds, program)[0] - without
         if took >= long_enough:
             break
         # At most a hundred times as many, since a short time tells little.
         rounds = min(most_rounds, int(rounds * min(100, max(2, 1.2 * long_enough / max(took, 1e-6)))))
     return rounds
 
-def measure(name, size):
-    rounds = rounds_for(name, size)
+def measure(name, size, program):
+    rounds = rounds_for(name, size, program)
     without, many = [], []
     for _ in range(runs):
-        without.append(run(name, size, 0))
-        many.append(run(name, size, rounds))
+        without.append(run(name, size, 0, program))
+        many.append(run(name, size, rounds, program))
     if len({r[2] for r in many}) != 1:
         sys.exit('layers: %s %d %d gave different answers' % (name, size, rounds))
     def call(of, which):
@@ -55,11 +61,11 @@ def shown(seconds):
             return '%.4g %s' % (seconds * scale, unit)
     return '%.3g ns' % (seconds * 1e9)
 
-def told(name, size, ratio_to=None):
-    best, median, cpu, rounds, found = measure(name, size)
+def told(name, size, ratio_to=None, program=edge):
+    best, median, cpu, rounds, found = measure(name, size, program)
     ratio = '' if ratio_to is None else ', %.2f times the last' % (best / ratio_to)
-    print('%-11s %6d  best %s, median %s, CPU %s (best), rounds %d, found %d%s' % (
-        name, size, shown(best), shown(median), shown(cpu), rounds, found, ratio), flush=True)
+    print('%-14s %6d  best %s, median %s, CPU %s (best), rounds %d, found %d%s' % (
+        name if program == edge else 'plain', size, shown(best), shown(median), shown(cpu), rounds, found, ratio), flush=True)
     return best
 
 def load():
@@ -83,5 +89,18 @@ for name in ('map', 'map_alike'):
     last = None
     for size in (100, 2325, 4650, 9300):
         last = told(name, size, last)
+# A step on lanes, of counters that are new and of such as have taken a million steps: for each number of keys the second may
+# take half as long again. Plain Rust then does the same: how many times its own time is the plain one's, the first line over
+# the second. At the end of a million steps on 250,000 keys the lanes are nearly full; the peak holds the asks too.
+for threshold in (5, 1000):
+    for size in (1, 10000, 250000):
+        last = None
+        for age in ('', '_worn'):
+            name = 'lane_%d%s' % (threshold, age)
+            last = told(name, size, last)
+            if plain:
+                theirs = told(name, size, None, plain)
+                print('%-14s %6d  %.2f times plain Rust' % (name, size, last / theirs), flush=True)
+print('lane_5_worn    250000  peak %d KiB' % run('lane_5_worn', 250000, 0)[3])
 print('at the end: %s' % load())
 P

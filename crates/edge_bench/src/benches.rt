@@ -2,10 +2,12 @@ use crate::addresses::addresses_found;
 use crate::arguments::{Names, arguments_found};
 use crate::expressions::tokens_found;
 use crate::faults::Fault;
+use crate::lanes::{Age, Threshold, steps_passed};
 use crate::texts::texts_found;
 use crate::wildcards::{Shape, matches_found};
 use edge_fields::FieldId;
 use std::alloc::Global;
+use std::hash::RandomState;
 
 /// What is called.
 #[derive(Clone, Copy, Debug, PartialEq, Eq)]
@@ -18,10 +20,12 @@ pub enum Bench {
     Map(Names),
     /// The names of the arguments.
     ArgNames,
+    /// A step on lanes.
+    Lane(Threshold, Age),
 }
 
 /// Every bench.
-const BENCHES: [Bench; 9] = [
+const BENCHES: [Bench; 13] = [
     Bench::Lex,
     Bench::HasAddr,
     Bench::HasText,
@@ -31,6 +35,10 @@ const BENCHES: [Bench; 9] = [
     Bench::Map(Names::Spread),
     Bench::Map(Names::Alike),
     Bench::ArgNames,
+    Bench::Lane(Threshold::Five, Age::New),
+    Bench::Lane(Threshold::Five, Age::Worn),
+    Bench::Lane(Threshold::Thousand, Age::New),
+    Bench::Lane(Threshold::Thousand, Age::Worn),
 ];
 
 /// A bench at a size, and how often the call is made.
@@ -42,7 +50,7 @@ pub struct Job {
 }
 
 /// Each bench at a small size.
-pub const SMALL: [Job; 9] = [
+pub const SMALL: [Job; 13] = [
     Job {
         bench: Bench::Lex,
         size: 512,
@@ -88,6 +96,26 @@ pub const SMALL: [Job; 9] = [
         size: 100,
         rounds: 10,
     },
+    Job {
+        bench: Bench::Lane(Threshold::Five, Age::New),
+        size: 100,
+        rounds: 1000,
+    },
+    Job {
+        bench: Bench::Lane(Threshold::Five, Age::Worn),
+        size: 100,
+        rounds: 1000,
+    },
+    Job {
+        bench: Bench::Lane(Threshold::Thousand, Age::New),
+        size: 100,
+        rounds: 1000,
+    },
+    Job {
+        bench: Bench::Lane(Threshold::Thousand, Age::Worn),
+        size: 100,
+        rounds: 1000,
+    },
 ];
 
 impl Bench {
@@ -102,6 +130,10 @@ impl Bench {
             Bench::Map(Names::Spread) => "map",
             Bench::Map(Names::Alike) => "map_alike",
             Bench::ArgNames => "names",
+            Bench::Lane(Threshold::Five, Age::New) => "lane_5",
+            Bench::Lane(Threshold::Five, Age::Worn) => "lane_5_worn",
+            Bench::Lane(Threshold::Thousand, Age::New) => "lane_1000",
+            Bench::Lane(Threshold::Thousand, Age::Worn) => "lane_1000_worn",
         }
     }
 
@@ -130,7 +162,7 @@ impl Job {
     }
 
     /// A number that every answer of the job counts in.
-    pub fn found(self, alloc: Global) -> Result<u64, Fault> {
+    pub fn found(self, alloc: Global, hasher: RandomState) -> Result<u64, Fault> {
         match self.bench {
             Bench::Lex => tokens_found(alloc, self.size, self.rounds),
             Bench::HasAddr => addresses_found(alloc, self.size, self.rounds),
@@ -138,6 +170,9 @@ impl Job {
             Bench::Wild(shape) => matches_found(alloc, shape, self.size, self.rounds),
             Bench::Map(names) => {
                 arguments_found(alloc, FieldId::Args, names, self.size, self.rounds)
+            }
+            Bench::Lane(threshold, age) => {
+                steps_passed(alloc, hasher, threshold, age, self.size, self.rounds)
             }
             Bench::ArgNames => {
                 arguments_found(

@@ -1,6 +1,7 @@
 use edge_base::Memory;
 use expr_lexer::LexFault;
 use list_store::ListFault;
+use rate_plain::StepFault;
 use std::alloc::{AllocError, AllocFailed};
 use text_match::WildFault;
 
@@ -13,6 +14,8 @@ pub enum Fault {
     Refused,
     Write,
     Memory,
+    /// There are no random numbers.
+    Random,
 }
 
 impl From<Memory> for Fault {
@@ -53,6 +56,15 @@ impl From<ListFault> for Fault {
     }
 }
 
+impl From<StepFault> for Fault {
+    fn from(fault: StepFault) -> Fault {
+        match fault {
+            StepFault::Memory => Fault::Memory,
+            StepFault::Spent => Fault::Refused,
+        }
+    }
+}
+
 impl From<WildFault> for Fault {
     fn from(fault: WildFault) -> Fault {
         match fault {
@@ -70,6 +82,7 @@ impl Fault {
             Fault::Refused => 3,
             Fault::Write => 6,
             Fault::Memory => 7,
+            Fault::Random => 8,
         }
     }
 
@@ -77,11 +90,12 @@ impl Fault {
     pub fn said(self) -> &'static str {
         match self {
             Fault::Usage => {
-                "usage: edge_bench lex|has_addr|has_text|wild|wild_long|wild_middle|map|map_alike|names SIZE ROUNDS"
+                "usage: edge_bench lex|has_addr|has_text|wild|wild_long|wild_middle|map|map_alike|names|lane_5|lane_5_worn|lane_1000|lane_1000_worn SIZE ROUNDS"
             }
             Fault::Refused => "edge_bench: refused",
             Fault::Write => "edge_bench: write fault",
             Fault::Memory => "edge_bench: no memory",
+            Fault::Random => "edge_bench: no random numbers",
         }
     }
 }

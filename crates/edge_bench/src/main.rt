@@ -7,6 +7,7 @@ mod arguments;
 mod benches;
 mod expressions;
 mod faults;
+mod lanes;
 mod spread;
 mod texts;
 mod wildcards;
@@ -14,7 +15,9 @@ mod wildcards;
 use benches::{Job, SMALL};
 use faults::Fault;
 use std::alloc::Global;
+use std::hash::RandomState;
 use std::process::ExitCode;
+use std::random::RandomSource;
 use std::rt::Env;
 use std::{env, io};
 
@@ -28,8 +31,8 @@ fn words<R: Env + AllocGlobal>(rt: &R) -> io::Result<Vec<String>> {
 }
 
 /// Does a job, and prints its line.
-fn print_found(rt: &impl Print, alloc: Global, job: Job) -> Result<(), Fault> {
-    let found = job.found(alloc)?;
+fn print_found(rt: &impl Print, alloc: Global, hasher: RandomState, job: Job) -> Result<(), Fault> {
+    let found = job.found(alloc, hasher)?;
     let name = job.bench.name();
     let size = job.size;
     match println!(rt; "{name} {size} {found}") {
@@ -39,26 +42,33 @@ fn print_found(rt: &impl Print, alloc: Global, job: Job) -> Result<(), Fault> {
 }
 
 /// The job that the words ask for, or each at a small size where there are none.
-fn run(rt: &impl Print, alloc: Global, words: &[String]) -> Result<(), Fault> {
+fn run(rt: &impl Print, alloc: Global, hasher: RandomState, words: &[String]) -> Result<(), Fault> {
     if words.is_empty() {
         for job in SMALL {
-            print_found(rt, alloc, job)?;
+            print_found(rt, alloc, hasher, job)?;
         }
         return Ok(());
     }
     match Job::of(words) {
-        Some(job) => print_found(rt, alloc, job),
+        Some(job) => print_found(rt, alloc, hasher, job),
         None => Err(Fault::Usage),
     }
 }
 
-fn main(rt: HostRuntime) -> ExitCode {
+/// Reads the words, and does what they ask for.
+fn start<R: Env + AllocGlobal + Print + RandomSource>(rt: &R) -> Result<(), Fault> {
     // Words that can't be read, as where one isn't UTF-8, are no job.
-    let done = match words(&rt) {
-        Ok(words) => run(&rt, rt.alloc(), words.as_slice()),
-        Err(_) => Err(Fault::Usage),
+    let Ok(words) = words(rt) else {
+        return Err(Fault::Usage);
     };
-    match done {
+    let Ok(hasher) = RandomState::new(rt) else {
+        return Err(Fault::Random);
+    };
+    run(rt, rt.alloc(), hasher, words.as_slice())
+}
+
+fn main(rt: HostRuntime) -> ExitCode {
+    match start(&rt) {
         Ok(()) => ExitCode::SUCCESS,
         Err(fault) => {
             let _ = rt.eprintln(fault.said());
