@@ -1,5 +1,5 @@
 -- Elements that are read one after the other.
-use Rattle.std.proofs.Common.{◌≡◌, List, [], ◌∷◌, ◌++◌, Option, None, Some, refl, inl, inr}
+use Rattle.std.proofs.Common.{List, [], ◌∷◌, ◌++◌, Option, None, Some, refl, inl, inr}
 use Rattle.config_read.specs.declared.fault.ConfigFault.{ConfigFault}
 use Rattle.config_read.specs.declared.fault.ConfigFault.TheVariants as fault
 use Rattle.config_read.specs.Refusals.{Refusal, Table, ◌▸◌, each, Refuses}

@@ -1,3 +1,5 @@
 pub mod EachLemmas
+pub mod ListsSettled
 pub mod MemberLemmas
 pub mod PlaceLemmas
+pub mod SettledLemmas

@@ -14,7 +14,7 @@ use Rattle.list_store.specs.declared.part.ListPart.{ListPart}
 use Rattle.list_store.specs.Parts.{is_named}
 use Rattle.config_read.specs.declared.fault.Cause.TheVariants as cause
 use Rattle.config_read.specs.Places.{whole, top, child, nth}
-use Rattle.config_read.specs.Refusals.{Table, ◌▸◌, refuse, refuse_unless, each}
+use Rattle.config_read.specs.Refusals.{Table, ◌▸◌, refuse, refuse_unless, each, IsSettled}
 use Rattle.config_read.specs.Members.{text_of, text, elements, an_object, typed, needed_text, needed_array}
 
 -- ---- the form
@@ -97,6 +97,10 @@ lists_table d =
 -- a document before its rulesets
 unfoldable pub front_table : Data → Table
 front_table d = an_object whole d ▸ form_table d ▸ lists_table d
+
+-- no document has two first refusals before its rulesets, nor one where nothing is refused
+abbrev pub FrontIsSettled : Type 0
+FrontIsSettled = (d : Data) → IsSettled (front_table d)
 
 -- the lists that a document stands for
 abbrev pub lists_at : Data → List ListPart

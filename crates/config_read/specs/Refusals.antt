@@ -48,6 +48,10 @@ abbrev pub IsAnswerOf : {A : Type 0} → Result A ConfigFault → Table → Type
 IsAnswerOf (Ok given) table = table None
 IsAnswerOf (Err e) table = Refuses e table
 
+-- a reading comes to one thing
+abbrev pub IsSettled : Table → Type 0
+IsSettled table = (a b : Option Refusal) → table a → table b → a ≡ b
+
 -- what is told of a refusal; want of memory takes its place
 abbrev pub Tells : ConfigFault → List ℕ → Cause → Type 0
 Tells (fault.Refused place cause) at why = (place ≡ at) × (cause ≡ why)

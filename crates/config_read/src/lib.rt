@@ -9,7 +9,7 @@ mod places;
 mod refusals;
 
 pub use fault::{Cause, ConfigFault};
-pub use lists::lists_of;
+pub use lists::{front_is_settled, lists_of};
 
 #[cfg(test)]
 mod tests;

@@ -5,7 +5,7 @@ ghost use Rattle.serde_json.specs.View.{view};
 ghost use Rattle.list_store.specs.Parts.{is_named};
 ghost use Rattle.config_read.specs.Refusals.{IsAnswerOf};
 ghost use Rattle.config_read.specs.Members.{text_of};
-ghost use Rattle.config_read.specs.ListsOf.{is_one, form_table, is_list_name_byte, is_list_name, list_kind_of, IsItemOf, item_table, items_table, list_table, list_at, each_list_table, lists_table, front_table, lists_at};
+ghost use Rattle.config_read.specs.ListsOf.{is_one, form_table, is_list_name_byte, is_list_name, list_kind_of, IsItemOf, item_table, items_table, list_table, list_at, each_list_table, lists_table, front_table, lists_at, FrontIsSettled};
 
 use crate::fault::{Cause, ConfigFault};
 use crate::members::{an_object, array_or_none, needed_array, needed_text};
@@ -215,3 +215,9 @@ pub fn lists_of(alloc: Global, document: &Value) -> Result<ListParts, ConfigFaul
     form_of(alloc, document)?;
     lists_in(alloc, document)
 }
+
+/// A law: a document has at most one first refusal before its rulesets, and none where nothing is refused.
+#[tactic(auto, using(crate::proofs::ListsSettled::front_settled))]
+pub fn front_is_settled()
+    ensures { FrontIsSettled }
+{}
