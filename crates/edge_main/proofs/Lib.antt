@@ -1,5 +1,7 @@
+pub mod CheckedLemmas
 pub mod DeploymentLemmas
-pub mod FormLemmas
+pub mod InForceLemmas
+pub mod JudgingLemmas
 pub mod OutputLemmas
 pub mod RunLemmas
 pub mod RunningLemmas

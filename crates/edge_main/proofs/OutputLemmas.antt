@@ -1,28 +1,26 @@
--- Each input has one run, and so one output.
-use Rattle.std.proofs.Common.{◌≡◌, ℕ, List, [], ◌∷◌, ◌++◌, Option, Some, None, refl, sym, ap, subst, ◌∙◌, inl, inr, append_assoc}
+-- Each input has an output, and one without patterns has one run, and so one output.
+use Rattle.std.proofs.Common.{◌≡◌, ℕ, List, [], ◌∷◌, ◌++◌, ◌⊎◌, refl, sym, ap, subst, ◌∙◌, inl, inr, append_assoc}
 use Rattle.serde_json.specs.Data.{Data}
 use Rattle.edge_base.specs.declared.message.Request.{Request}
 use Rattle.edge_outside.specs.Lines.{lines_of}
+use Rattle.expr_parser.specs.Parsed.{AnswersAreUnique}
 use Rattle.trace_form.specs.Item.{IsBlank, IsDeploy, IsAsk}
 use Rattle.trace_form.proofs.ItemLemmas.{IsDeploy-unique, IsAsk-unique, blank-not_deploy, blank-not_ask, deploy-not_ask, Kind, kind-found}
 use Rattle.trace_form.proofs.ItemLemmas as kind
-use Rattle.edge_main.specs.declared.deployment.Deployed.{Deployed}
-use Rattle.edge_main.specs.Deployment.{deployment_of}
-use Rattle.edge_main.specs.Answered.{RunState, opening, Answered, passed_by, refused, put_in_force, redeployed, judged}
-use Rattle.edge_main.specs.Output.{IsAnswered, IsRun, IsOutput, IsBad, texts_of, RunsAreUnique, OutputsAreUnique, EveryInputHasAnOutput}
+use Rattle.edge_main.specs.InForce.{InForce, IsTaken, IsNotTaken, HasNoPatterns}
+use Rattle.edge_main.proofs.InForceLemmas.{found-taken, taken-not_refused, taken-unique}
+use Rattle.edge_main.specs.Answered.{RunState, opening, Answered, passed_by, refused, put_in_force, judged}
+use Rattle.edge_main.specs.Output.{IsAnswered, IsRun, IsOutput, IsBad, IsWithoutPatterns, texts_of, RunsAreUnique, OutputsAreUnique, EveryInputHasAnOutput}
 use Rattle.edge_main.specs.Output as answered
 
 -- ---- a line is answered
 
-pub deployment-answered : (s : RunState) (given : List ℕ) (value : Data) → IsDeploy given value → (found : Option Deployed)
-    → deployment_of value ≡ found → IsAnswered s given (redeployed s found)
-deployment-answered s given value h None e = answered.bad (inr (value, h, e)) refl
-deployment-answered s given value h (Some deployed) e = answered.deployment value deployed h e refl
-
 kind_goes : (s : RunState) (given : List ℕ) → Kind given → (this : Answered) × IsAnswered s given this
 kind_goes s given (kind.blank h) = (passed_by s, answered.blank h refl)
-kind_goes s given (kind.deploy value h) =
-    (redeployed s (deployment_of value), deployment-answered s given value h (deployment_of value) refl)
+kind_goes s given (kind.deploy value h) = of_value (found-taken value) where
+  of_value : ((deployed : InForce) × IsTaken value deployed) ⊎ IsNotTaken value → (this : Answered) × IsAnswered s given this
+  of_value (inl (deployed, taken)) = (put_in_force s deployed, answered.deployment value deployed h taken refl)
+  of_value (inr none) = (refused s, answered.bad (inr (value, h, none)) refl)
 kind_goes s given (kind.ask request h) = (judged s request, answered.request request h refl)
 kind_goes s given (kind.no_item h) = (refused s, answered.bad (inl h) refl)
 
@@ -53,7 +51,11 @@ texts-append [] b = refl
 texts-append (this ∷ a) b =
     ap (λ xs. this.text ++ xs) (texts-append a b) ∙ sym (append_assoc this.text (texts_of a) (texts_of b))
 
--- ---- a line is answered in one way
+-- ---- a line without patterns is answered in one way
+
+-- no deployment of the line has a pattern
+abbrev IsPlain : List ℕ → Type 0
+IsPlain given = (value : Data) → IsDeploy given value → HasNoPatterns value
 
 blank-not_bad : (given : List ℕ) → IsBlank given → ¬ (IsBad given)
 blank-not_bad given blank (inl none) = none.not_blank blank
@@ -63,49 +65,52 @@ ask-not_bad : (given : List ℕ) (request : Request) → IsAsk given request →
 ask-not_bad given request ask (inl none) = none.not_ask request ask
 ask-not_bad given request ask (inr (value, h, e)) = deploy-not_ask given value request h ask
 
-deployed-not_bad : (given : List ℕ) (value : Data) (deployed : Deployed) → IsDeploy given value → deployment_of value ≡ Some deployed → ¬ (IsBad given)
-deployed-not_bad given value deployed h e (inl none) = none.not_deploy value h
-deployed-not_bad given value deployed h e (inr (other, g, f)) =
-    let same : deployment_of other ≡ deployment_of value = ap deployment_of (IsDeploy-unique given other value g h) in cc
+module _ (unique : AnswersAreUnique) where
+  taken-not_bad : (given : List ℕ) (value : Data) (deployed : InForce) → IsPlain given → IsDeploy given value → IsTaken value deployed → ¬ (IsBad given)
+  taken-not_bad given value deployed plain h taken (inl none) = none.not_deploy value h
+  taken-not_bad given value deployed plain h taken (inr (other, g, refused)) =
+      taken-not_refused unique value deployed (plain value h) taken (subst IsNotTaken (IsDeploy-unique given other value g h) refused)
 
-some-same : (a b : Deployed) → Some a ≡ Some b → a ≡ b
-some-same a b e = cc
+  same-taken : (given : List ℕ) (value other : Data) (a b : InForce) → IsPlain given → IsDeploy given value → IsDeploy given other
+      → IsTaken value a → IsTaken other b → a ≡ b
+  same-taken given value other a b plain h g p q =
+      taken-unique unique value a b p (subst (λ v. IsTaken v b) (IsDeploy-unique given other value g h) q)
 
-answered_unique : (s : RunState) (given : List ℕ) (a b : Answered) → IsAnswered s given a → IsAnswered s given b → a ≡ b
-answered_unique s given a b (answered.blank h p) (answered.blank g q) = p ∙ sym q
-answered_unique s given a b (answered.blank h p) (answered.bad g q) = absurd (blank-not_bad given h g)
-answered_unique s given a b (answered.blank h p) (answered.deployment value deployed g e q) = absurd (blank-not_deploy given value h g)
-answered_unique s given a b (answered.blank h p) (answered.request asked g q) = absurd (blank-not_ask given asked h g)
-answered_unique s given a b (answered.bad h p) (answered.blank g q) = absurd (blank-not_bad given g h)
-answered_unique s given a b (answered.bad h p) (answered.bad g q) = p ∙ sym q
-answered_unique s given a b (answered.bad h p) (answered.deployment value deployed g e q) = absurd (deployed-not_bad given value deployed g e h)
-answered_unique s given a b (answered.bad h p) (answered.request asked g q) = absurd (ask-not_bad given asked g h)
-answered_unique s given a b (answered.deployment value deployed h e p) (answered.blank g q) = absurd (blank-not_deploy given value g h)
-answered_unique s given a b (answered.deployment value deployed h e p) (answered.bad g q) = absurd (deployed-not_bad given value deployed h e g)
-answered_unique s given a b (answered.deployment value deployed h e p) (answered.deployment other deployed' g f q) =
-    let same : Some deployed ≡ Some deployed' = sym e ∙ ap deployment_of (IsDeploy-unique given value other h g) ∙ f in
-    p ∙ ap (put_in_force s) (some-same deployed deployed' same) ∙ sym q
-answered_unique s given a b (answered.deployment value deployed h e p) (answered.request asked g q) = absurd (deploy-not_ask given value asked h g)
-answered_unique s given a b (answered.request asked h p) (answered.blank g q) = absurd (blank-not_ask given asked g h)
-answered_unique s given a b (answered.request asked h p) (answered.bad g q) = absurd (ask-not_bad given asked h g)
-answered_unique s given a b (answered.request asked h p) (answered.deployment value deployed g e q) = absurd (deploy-not_ask given value asked g h)
-answered_unique s given a b (answered.request asked h p) (answered.request other g q) =
-    p ∙ ap (judged s) (IsAsk-unique given asked other h g) ∙ sym q
+  answered_unique : (s : RunState) (given : List ℕ) (a b : Answered) → IsPlain given → IsAnswered s given a → IsAnswered s given b → a ≡ b
+  answered_unique s given a b plain (answered.blank h p) (answered.blank g q) = p ∙ sym q
+  answered_unique s given a b plain (answered.blank h p) (answered.bad g q) = absurd (blank-not_bad given h g)
+  answered_unique s given a b plain (answered.blank h p) (answered.deployment value deployed g e q) = absurd (blank-not_deploy given value h g)
+  answered_unique s given a b plain (answered.blank h p) (answered.request asked g q) = absurd (blank-not_ask given asked h g)
+  answered_unique s given a b plain (answered.bad h p) (answered.blank g q) = absurd (blank-not_bad given g h)
+  answered_unique s given a b plain (answered.bad h p) (answered.bad g q) = p ∙ sym q
+  answered_unique s given a b plain (answered.bad h p) (answered.deployment value deployed g e q) = absurd (taken-not_bad given value deployed plain g e h)
+  answered_unique s given a b plain (answered.bad h p) (answered.request asked g q) = absurd (ask-not_bad given asked g h)
+  answered_unique s given a b plain (answered.deployment value deployed h e p) (answered.blank g q) = absurd (blank-not_deploy given value g h)
+  answered_unique s given a b plain (answered.deployment value deployed h e p) (answered.bad g q) = absurd (taken-not_bad given value deployed plain h e g)
+  answered_unique s given a b plain (answered.deployment value deployed h e p) (answered.deployment other deployed' g f q) =
+      p ∙ ap (put_in_force s) (same-taken given value other deployed deployed' plain h g e f) ∙ sym q
+  answered_unique s given a b plain (answered.deployment value deployed h e p) (answered.request asked g q) = absurd (deploy-not_ask given value asked h g)
+  answered_unique s given a b plain (answered.request asked h p) (answered.blank g q) = absurd (blank-not_ask given asked g h)
+  answered_unique s given a b plain (answered.request asked h p) (answered.bad g q) = absurd (ask-not_bad given asked h g)
+  answered_unique s given a b plain (answered.request asked h p) (answered.deployment value deployed g e q) = absurd (deploy-not_ask given value asked g h)
+  answered_unique s given a b plain (answered.request asked h p) (answered.request other g q) =
+      p ∙ ap (judged s) (IsAsk-unique given asked other h g) ∙ sym q
 
-runs_unique : (from : RunState) (lines : List (List ℕ)) (a b : List Answered) (x y : RunState) → IsRun from lines a x → IsRun from lines b y
-    → (a ≡ b) × (x ≡ y)
-runs_unique from [] [] [] x y p q = (refl, sym p ∙ q)
-runs_unique from [] [] (that ∷ b) x y p q = absurd q
-runs_unique from [] (this ∷ a) b x y p q = absurd p
-runs_unique from (given ∷ lines) [] b x y p q = absurd p
-runs_unique from (given ∷ lines) (this ∷ a) [] x y p q = absurd q
-runs_unique from (given ∷ lines) (this ∷ a) (that ∷ b) x y p q =
-    let same : this ≡ that = answered_unique from given this that p.0 q.0 in
-    let rest = runs_unique this.after lines a b x y p.1 (subst (λ t. IsRun t.after lines b y) (sym same) q.1) in
-    (ap (λ t. t ∷ a) same ∙ ap (λ run. that ∷ run) rest.0, rest.1)
+  runs_unique : (from : RunState) (lines : List (List ℕ)) (a b : List Answered) (x y : RunState) → IsWithoutPatterns lines
+      → IsRun from lines a x → IsRun from lines b y → (a ≡ b) × (x ≡ y)
+  runs_unique from [] [] [] x y plain p q = (refl, sym p ∙ q)
+  runs_unique from [] [] (that ∷ b) x y plain p q = absurd q
+  runs_unique from [] (this ∷ a) b x y plain p q = absurd p
+  runs_unique from (given ∷ lines) [] b x y plain p q = absurd p
+  runs_unique from (given ∷ lines) (this ∷ a) [] x y plain p q = absurd q
+  runs_unique from (given ∷ lines) (this ∷ a) (that ∷ b) x y plain p q =
+      let same : this ≡ that = answered_unique from given this that plain.0 p.0 q.0 in
+      let rest = runs_unique this.after lines a b x y plain.1 p.1 (subst (λ t. IsRun t.after lines b y) (sym same) q.1) in
+      (ap (λ t. t ∷ a) same ∙ ap (λ run. that ∷ run) rest.0, rest.1)
 
-pub runs_are_unique : RunsAreUnique
-runs_are_unique input a b x y p q = runs_unique opening (lines_of input) a b x y p q
+  pub runs_are_unique : RunsAreUnique
+  runs_are_unique input a b x y plain p q = runs_unique opening (lines_of input) a b x y plain p q
 
-pub outputs_are_unique : OutputsAreUnique
-outputs_are_unique input a b p q = p.3 ∙ ap texts_of ((runs_are_unique input p.0 q.0 p.1 q.1 p.2 q.2).0) ∙ sym q.3
+  pub outputs_are_unique : OutputsAreUnique
+  outputs_are_unique input a b plain p q =
+      p.3 ∙ ap texts_of ((runs_are_unique input p.0 q.0 p.1 q.1 plain p.2 q.2).0) ∙ sym q.3

@@ -1,11 +1,11 @@
 -- A line of the input that was answered: what it came to, and the run before and after it.
-use Rattle.std.specs.Prelude.{ℕ, ◌+◌, Bool, true, false, List, [], Option, Some, None}
+use Rattle.std.specs.Prelude.{ℕ, ◌+◌, Bool, true, false, List, [], None}
 use Rattle.edge_base.specs.declared.message.Request.{Request}
 use Rattle.trace_form.specs.Line.{line, deploy_line, bad_line}
 use Rattle.trace_form.specs.declared.output.LineParts.{LineParts}
 use Rattle.trace_form.specs.declared.refusal.BadCause.{BadCause}
 use Rattle.trace_form.specs.declared.refusal.BadCause.TheVariants as cause
-use Rattle.edge_main.specs.declared.deployment.Deployed.{Deployed}
+use Rattle.edge_main.specs.InForce.{InForce}
 use Rattle.edge_main.specs.Judging.{verdict_of}
 
 -- how far a run has come: the lines and the requests so far, the version and what it puts in force, and whether a line
@@ -14,7 +14,7 @@ pub record RunState : Type 0 where
   pub lines : ℕ
   pub requests : ℕ
   pub version : ℕ
-  pub deployed : Deployed
+  pub deployed : InForce
   pub any_bad : Bool
 
 -- nothing was read, and version 0 has no rule
@@ -26,7 +26,7 @@ opening = record { lines = 0; requests = 0; version = 0; deployed = record { rul
 pub data LineKind : Type 0 where
   blank : LineKind
   bad : ℕ → BadCause → LineKind
-  deployment : ℕ → Deployed → LineKind
+  deployment : ℕ → InForce → LineKind
   request : LineParts → LineKind
 
 -- what is written for a line
@@ -55,7 +55,7 @@ abbrev pub refused : RunState → Answered
 refused s = answered_as (bad (s.lines + 1) cause.Unsupported) s (record s { lines = s.lines + 1; any_bad = true })
 
 -- a deployment: it becomes the next version
-abbrev pub put_in_force : RunState → Deployed → Answered
+abbrev pub put_in_force : RunState → InForce → Answered
 put_in_force s deployed =
     answered_as (deployment (s.version + 1) deployed) s
     (record s { lines = s.lines + 1; version = s.version + 1; deployed = deployed })
@@ -68,8 +68,3 @@ judged_parts s asked =
 abbrev pub judged : RunState → Request → Answered
 judged s asked =
     answered_as (request (judged_parts s asked)) s (record s { lines = s.lines + 1; requests = s.requests + 1 })
-
--- a deployment, where this is what it puts in force; it is refused where it is of no form that is taken
-abbrev pub redeployed : RunState → Option Deployed → Answered
-redeployed s None = refused s
-redeployed s (Some deployed) = put_in_force s deployed

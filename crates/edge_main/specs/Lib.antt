@@ -1,10 +1,10 @@
 pub mod Answered
 pub mod Deployment
 pub mod Ended
-pub mod Form
-pub mod FormTree
+pub mod InForce
 pub mod Judging
 pub mod Output
 pub mod Running
 pub mod Statuses
 pub mod Words
+pub mod Written

@@ -1,23 +1,22 @@
 -- What `replay` writes for an input: a run over its lines in order, each answered by what it is and by how far the run
 -- has come.
-use Rattle.std.specs.Prelude.{◌≡◌, ℕ, ◌⊎◌, List, [], ◌∷◌, ◌++◌, Some, None}
+use Rattle.std.specs.Prelude.{◌≡◌, ℕ, ◌⊎◌, List, [], ◌∷◌, ◌++◌, ⊤}
 use Rattle.serde_json.specs.Data.{Data}
 use Rattle.edge_base.specs.declared.message.Request.{Request}
 use Rattle.edge_outside.specs.Lines.{lines_of}
 use Rattle.trace_form.specs.Item.{IsBlank, IsDeploy, IsAsk, IsNoItem}
-use Rattle.edge_main.specs.declared.deployment.Deployed.{Deployed}
-use Rattle.edge_main.specs.Deployment.{deployment_of}
+use Rattle.edge_main.specs.InForce.{InForce, IsTaken, IsNotTaken, HasNoPatterns}
 use Rattle.edge_main.specs.Answered.{RunState, opening, Answered, passed_by, refused, put_in_force, judged}
 
--- the line is no item: of no form, or a deployment of a form that is not taken
+-- the line is no item: of no form, or a deployment that is not taken
 abbrev pub IsBad : List ℕ → Type 0
-IsBad given = IsNoItem given ⊎ ((value : Data) × IsDeploy given value × (deployment_of value ≡ None))
+IsBad given = IsNoItem given ⊎ ((value : Data) × IsDeploy given value × IsNotTaken value)
 
 -- the answer to a line of the input, where the run has come so far
 pub data IsAnswered (s : RunState) (given : List ℕ) (answered : Answered) : Type 0 where
   blank : IsBlank given → answered ≡ passed_by s → IsAnswered s given answered
   bad : IsBad given → answered ≡ refused s → IsAnswered s given answered
-  deployment : (value : Data) (deployed : Deployed) → IsDeploy given value → deployment_of value ≡ Some deployed
+  deployment : (value : Data) (deployed : InForce) → IsDeploy given value → IsTaken value deployed
       → answered ≡ put_in_force s deployed → IsAnswered s given answered
   request : (asked : Request) → IsAsk given asked → answered ≡ judged s asked → IsAnswered s given answered
 
@@ -41,13 +40,18 @@ texts_of (answered ∷ run) = answered.text ++ texts_of run
 abbrev pub IsOutput : List ℕ → List ℕ → Type 0
 IsOutput input out = (run : List Answered) × (to : RunState) × IsRunOf input run to × (out ≡ texts_of run)
 
--- each input has one run, and so one output
+-- no deployment of the input has a pattern
+abbrev pub IsWithoutPatterns : List (List ℕ) → Type 0
+IsWithoutPatterns [] = ⊤
+IsWithoutPatterns (given ∷ lines) = ((value : Data) → IsDeploy given value → HasNoPatterns value) × IsWithoutPatterns lines
+
+-- each input without patterns has one run, and so one output
 abbrev pub RunsAreUnique : Type 0
-RunsAreUnique = (input : List ℕ) (a b : List Answered) (x y : RunState) → IsRunOf input a x → IsRunOf input b y
-    → (a ≡ b) × (x ≡ y)
+RunsAreUnique = (input : List ℕ) (a b : List Answered) (x y : RunState) → IsWithoutPatterns (lines_of input)
+    → IsRunOf input a x → IsRunOf input b y → (a ≡ b) × (x ≡ y)
 
 abbrev pub OutputsAreUnique : Type 0
-OutputsAreUnique = (input a b : List ℕ) → IsOutput input a → IsOutput input b → a ≡ b
+OutputsAreUnique = (input a b : List ℕ) → IsWithoutPatterns (lines_of input) → IsOutput input a → IsOutput input b → a ≡ b
 
 abbrev pub EveryInputHasAnOutput : Type 0
 EveryInputHasAnOutput = (input : List ℕ) → (out : List ℕ) × IsOutput input out

@@ -1,5 +1,5 @@
 -- The loop of `replay`: what stands between two lines. No public clause cites these words.
-use Rattle.std.specs.Prelude.{◌≡◌, ℕ, ◌+◌, ◌≤◌, ◌^◌, List, [], ◌++◌, length, take, Option, Some, Result, Ok, Err, ⊤}
+use Rattle.std.specs.Prelude.{◌≡◌, ℕ, ◌+◌, ◌≤◌, ◌^◌, ◌⊎◌, List, [], ◌++◌, length, take, Option, Some, Result, Ok, Err, ⊤}
 use Rattle.std.specs.Io.KnownBytes.{Appends, Consumes}
 use Rattle.edge_outside.specs.declared.line_reader.LineReader.{LineReader}
 use Rattle.edge_outside.specs.Lines.{lines_of}
@@ -11,13 +11,21 @@ use Rattle.edge_main.specs.declared.replay.Turn.{Turn}
 use Rattle.edge_main.specs.declared.replay.Turn.TheVariants as turn
 use Rattle.edge_main.specs.declared.replay.RunFault.{RunFault}
 use Rattle.edge_main.specs.declared.replay.RunFault.TheVariants as fault
-use Rattle.edge_main.specs.Answered.{RunState, opening, Answered}
+use Rattle.serde_json.specs.Data.{Data}
+use Rattle.edge_main.specs.InForce.{InForce, IsTaken, IsNotTaken}
+use Rattle.edge_main.specs.Answered.{RunState, opening, Answered, refused, put_in_force}
 use Rattle.edge_main.specs.Output.{IsAnswered, IsRun, texts_of}
 use Rattle.edge_main.specs.Ended.{WroteFront, IsBegun}
 
 -- this is the text that was made, and so far the run has come
 abbrev pub Came : Answered → List ℕ → RunState → Type 0
 Came answered text after = (text ≡ answered.text) × (after ≡ answered.after)
+
+-- the run has answered a deployment: it was taken, or refused
+abbrev pub AnsweredDeployment : RunState → Data → List ℕ → RunState → Type 0
+AnsweredDeployment before value text after =
+    ((deployed : InForce) × IsTaken value deployed × Came (put_in_force before deployed) text after)
+    ⊎ (IsNotTaken value × Came (refused before) text after)
 
 -- the run has answered a line
 abbrev pub AnsweredLine : RunState → List ℕ → List ℕ → RunState → Type 0

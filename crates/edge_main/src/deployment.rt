@@ -1,26 +1,19 @@
-ghost use Rattle.std.specs.Prelude.{◌≡◌, ℕ, List, IfOk, Some, option_map};
+ghost use Rattle.std.specs.Prelude.{◌≡◌, Some, option_map};
 ghost use Rattle.std.specs.List.{list_all};
 ghost use Rattle.serde_json.specs.View.{view, items_view};
 ghost use Rattle.trace_form.specs.Members.{has_members};
 ghost use Rattle.edge_main.specs.Deployment.{is_id_byte, is_id, is_text, id_of, at_most_one, only_of, rule_of, rules_of, is_taken_set, set_of, sets_of, deployment_of};
+ghost use Rattle.edge_main.specs.Written.{written};
 
-use crate::form::compared_path;
-use edge_base::{Memory, RuleName, Text};
 use serde_json::Value;
-use std::alloc::Global;
 use trace_form::{has_members, text_of};
 
-/// A rule that blocks the requests for one path.
-#[derive(Debug, Drop)]
-pub struct PathRule {
-    pub name: RuleName,
-    pub path: Text,
-}
-
-/// What is in force: at most one rule.
-#[derive(Debug, Drop)]
-pub struct Deployed {
-    pub rule: Option<PathRule>,
+/// A rule as a deployment writes it: its ruleset's id and its own, and the text of its condition.
+#[derive(Clone, Copy, Debug)]
+pub struct RuleText<'v> {
+    pub set_id: &'v [u8],
+    pub id: &'v [u8],
+    pub expression: &'v [u8],
 }
 
 fn is_id_byte(byte: u8) -> bool
@@ -83,38 +76,28 @@ fn only_of<'a>(value: &'a Value, name: &str) -> Option<Option<&'a Value>>
     at_most_one(values.as_slice())
 }
 
-/// A rule: an id, an expression that compares the path, and the action `block`.
-fn rule_of(alloc: Global, set_id: &[u8], value: &Value) -> Result<Option<PathRule>, Memory>
-    ensures { IfOk result (λ rule. rule ≡ rule_of set_id.now (view value.now)) }
+/// A rule: an id, an expression, and the action `block`.
+fn rule_of<'v>(set_id: &'v [u8], value: &'v Value) -> Option<RuleText<'v>>
+    ensures { option_map written result ≡ rule_of set_id.now (view value.now) }
 {
     if !(has_members(value, 3) && is_text(value, "action", "block")) {
-        return Ok(None);
+        return None;
     }
-    let Some(id) = id_of(value) else {
-        return Ok(None);
-    };
-    let Some(expression) = text_of(value, "expression") else {
-        return Ok(None);
-    };
-    let Some(path) = compared_path(alloc, expression)? else {
-        return Ok(None);
-    };
-    let name = RuleName {
-        set_id: Text::of(alloc, set_id)?,
-        rule: Text::of(alloc, id)?,
-    };
-    Ok(Some(PathRule { name, path }))
+    let id = id_of(value)?;
+    let expression = text_of(value, "expression")?;
+    Some(RuleText {
+        set_id,
+        id,
+        expression,
+    })
 }
 
-fn rules_of(alloc: Global, set_id: &[u8], value: Option<&Value>) -> Result<Option<Deployed>, Memory>
-    ensures { IfOk result (λ deployed. deployed ≡ rules_of set_id.now (option_map (λ v. view v.now) value.entry)) }
+fn rules_of<'v>(set_id: &'v [u8], value: Option<&'v Value>) -> Option<Option<RuleText<'v>>>
+    ensures { option_map (option_map written) result ≡ rules_of set_id.now (option_map (λ v. view v.now) value.entry) }
 {
-    let Some(value) = value else {
-        return Ok(Some(Deployed { rule: None }));
-    };
-    match rule_of(alloc, set_id, value)? {
-        None => Ok(None),
-        Some(rule) => Ok(Some(Deployed { rule: Some(rule) })),
+    match value {
+        None => Some(None),
+        Some(value) => Some(Some(rule_of(set_id, value)?)),
     }
 }
 
@@ -127,39 +110,33 @@ fn is_taken_set(value: &Value) -> bool
 }
 
 /// A ruleset: an id, the kind and the phase that are taken, and at most one rule.
-fn set_of(alloc: Global, value: &Value) -> Result<Option<Deployed>, Memory>
-    ensures { IfOk result (λ deployed. deployed ≡ set_of (view value.now)) }
+fn set_of(value: &Value) -> Option<Option<RuleText<'_>>>
+    ensures { option_map (option_map written) result ≡ set_of (view value.now) }
 {
     if !is_taken_set(value) {
-        return Ok(None);
+        return None;
     }
-    let Some(id) = id_of(value) else {
-        return Ok(None);
-    };
-    match only_of(value, "rules") {
-        None => Ok(None),
-        Some(rule) => rules_of(alloc, id, rule),
-    }
+    let id = id_of(value)?;
+    let rule = only_of(value, "rules")?;
+    rules_of(id, rule)
 }
 
-fn sets_of(alloc: Global, value: Option<&Value>) -> Result<Option<Deployed>, Memory>
-    ensures { IfOk result (λ deployed. deployed ≡ sets_of (option_map (λ v. view v.now) value.entry)) }
+fn sets_of(value: Option<&Value>) -> Option<Option<RuleText<'_>>>
+    ensures { option_map (option_map written) result ≡ sets_of (option_map (λ v. view v.now) value.entry) }
 {
     match value {
-        None => Ok(Some(Deployed { rule: None })),
-        Some(value) => set_of(alloc, value),
+        None => Some(None),
+        Some(value) => set_of(value),
     }
 }
 
-/// What a deployment puts in force, where it is one that is taken.
-pub fn deployment_of(alloc: Global, value: &Value) -> Result<Option<Deployed>, Memory>
-    ensures { IfOk result (λ deployed. deployed ≡ deployment_of (view value.now)) }
+/// The rule that a deployment writes, where the deployment has the form that is taken; it may have none. Takes no memory.
+pub fn deployment_of(value: &Value) -> Option<Option<RuleText<'_>>>
+    ensures { option_map (option_map written) result ≡ deployment_of (view value.now) }
 {
     if !has_members(value, 1) {
-        return Ok(None);
+        return None;
     }
-    match only_of(value, "rulesets") {
-        None => Ok(None),
-        Some(set) => sets_of(alloc, set),
-    }
+    let set = only_of(value, "rulesets")?;
+    sets_of(set)
 }

@@ -1,10 +1,12 @@
-ghost use Rattle.std.specs.Prelude.{◌≡◌, IfOk};
+ghost use Rattle.std.specs.Prelude.{◌≡◌, [], IfOk};
 ghost use Rattle.edge_main.specs.Judging.{blocks, passed, blocked, verdict_of};
+ghost use Rattle.edge_main.specs.Written.{rule_kept, kept};
 
-use crate::deployment::{Deployed, PathRule};
+use crate::rule::{BlockRule, Deployed};
 use edge_base::{Memory, Request, RuleNames, Text};
-use edge_fields::path_of;
+use list_store::Lists;
 use std::alloc::Global;
+use tree_eval::is_met;
 use trace_form::{Response, Verdict, VerdictKind};
 
 /// The status, the text and its type with which a rule blocks that says nothing of them.
@@ -15,10 +17,11 @@ const BLOCK_CONTENT: &[u8] = b"blocked\n";
 const BLOCK_CONTENT_TYPE: &[u8] = b"text/plain";
 
 /// Whether the rule's condition is true of the request.
-fn blocks(rule: &PathRule, request: &Request) -> bool
-    ensures { result ≡ blocks rule.now request.now }
+fn blocks(alloc: Global, rule: &BlockRule, request: &Request, lists: &Lists) -> Result<bool, Memory>
+    requires { lists.now ≡ [] }
+    ensures { IfOk result (λ met. met ≡ blocks (rule_kept rule.now) request.now) }
 {
-    path_of(request) == rule.path.bytes()
+    is_met(alloc, &rule.condition, request, None, lists)
 }
 
 fn passed(alloc: Global) -> Verdict
@@ -31,8 +34,8 @@ fn passed(alloc: Global) -> Verdict
     }
 }
 
-fn blocked(alloc: Global, rule: &PathRule) -> Result<Verdict, Memory>
-    ensures { IfOk result (λ verdict. verdict ≡ blocked rule.now) }
+fn blocked(alloc: Global, rule: &BlockRule) -> Result<Verdict, Memory>
+    ensures { IfOk result (λ verdict. verdict ≡ blocked (rule_kept rule.now)) }
 {
     let response = Response {
         status_code: BLOCK_STATUS,
@@ -46,12 +49,22 @@ fn blocked(alloc: Global, rule: &PathRule) -> Result<Verdict, Memory>
     })
 }
 
-/// The verdict on a request under what is in force.
-pub fn verdict_of(alloc: Global, deployed: &Deployed, request: &Request) -> Result<Verdict, Memory>
-    ensures { IfOk result (λ verdict. verdict ≡ verdict_of deployed.now request.now) }
+/// The verdict on a request under what is in force. There are no lists.
+pub fn verdict_of(
+    alloc: Global,
+    deployed: &Deployed,
+    request: &Request,
+    lists: &Lists,
+) -> Result<Verdict, Memory>
+    requires { lists.now ≡ [] }
+    ensures { IfOk result (λ verdict. verdict ≡ verdict_of (kept deployed.now) request.now) }
 {
-    match &deployed.rule {
-        Some(rule) if blocks(rule, request) => blocked(alloc, rule),
-        _ => Ok(passed(alloc)),
+    let Some(rule) = &deployed.rule else {
+        return Ok(passed(alloc));
+    };
+    if blocks(alloc, rule, request, lists)? {
+        blocked(alloc, rule)
+    } else {
+        Ok(passed(alloc))
     }
 }

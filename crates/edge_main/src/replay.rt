@@ -72,7 +72,7 @@ fn write_piece<K: Sink>(pending: &mut TextBuilder, out: &mut K) -> Result<(), Fa
 }
 
 /// A run under way: what it has read and judged, and the answers that were not written yet.
-#[derive(Debug, Drop)]
+#[derive(Drop)]
 pub struct Replay {
     pub run: Run,
     pub reader: LineReader,
@@ -86,7 +86,7 @@ impl Replay {
         ensures { IfOk result IsOpening }
     {
         Ok(Replay {
-            run: Run::new(),
+            run: Run::new(alloc)?,
             reader: LineReader::new(alloc)?,
             pending: TextBuilder::new(alloc),
             answer: TextBuilder::new(alloc),

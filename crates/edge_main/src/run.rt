@@ -1,13 +1,15 @@
-ghost use Rattle.std.specs.Prelude.{◌≡◌, ◌<◌, ◌^◌, cond, OnOk};
+ghost use Rattle.std.specs.Prelude.{◌≡◌, ◌<◌, ◌^◌, cond, IfOk, OnOk};
 ghost use Rattle.serde_json.specs.View.{view};
-ghost use Rattle.edge_main.specs.Deployment.{deployment_of};
-ghost use Rattle.edge_main.specs.Answered.{opening, passed_by, refused, redeployed, judged};
-ghost use Rattle.edge_main.specs.Running.{Came, AnsweredLine};
+ghost use Rattle.edge_main.specs.InForce.{IsTaken, IsNotTaken};
+ghost use Rattle.edge_main.specs.Answered.{opening, passed_by, refused, judged};
+ghost use Rattle.edge_main.specs.Running.{Came, AnsweredDeployment, AnsweredLine};
 
-use crate::deployment::{Deployed, deployment_of};
+use crate::condition::deployed_by;
 use crate::judging::verdict_of;
+use crate::rule::Deployed;
 use crate::statuses::Status;
 use edge_base::{Memory, Request, TextBuilder};
+use list_store::{ListParts, Lists};
 use serde_json::Value;
 use std::alloc::Global;
 use std::marker::Model;
@@ -17,7 +19,7 @@ use trace_form::{
 };
 
 /// How far a run of `replay` has come. Contracts see its state.
-#[derive(Debug, Drop)]
+#[derive(Drop)]
 pub struct Run {
     /// The lines so far, blank and bad ones too.
     lines: u64,
@@ -28,37 +30,49 @@ pub struct Run {
     deployed: Deployed,
     /// Whether a line was no item.
     any_bad: bool,
+    /// The named lists that conditions may speak of: none.
+    lists: Lists,
 }
 
 impl Model for Run {
-    ghost use Rattle.std.specs.Prelude.{◌≤◌};
+    ghost use Rattle.std.specs.Prelude.{◌≡◌, ◌≤◌, []};
+    ghost use Rattle.std.specs.Coded.{codes};
+    ghost use Rattle.edge_base.specs.contracts.expression.Expr as expr;
     ghost use Rattle.edge_main.specs.Answered.{RunState};
 
     ghost Value = { RunState };
+
+    ghost coded = { Prim.hlevel (codes, expr.the_row.coded) };
+
+    ghost use Rattle.edge_main.specs.Written.{kept};
 
     ghost view = { λ run. record {
       lines = run.lines;
       requests = run.requests;
       version = run.version;
-      deployed = run.deployed;
+      deployed = kept run.deployed;
       any_bad = run.any_bad;
     } };
 
-    ghost invariant = { λ run. (run.requests ≤ run.lines) × (run.version ≤ run.lines) };
+    ghost invariant = { λ run. (run.requests ≤ run.lines) × (run.version ≤ run.lines) × (run.lists ≡ []) };
 }
 
 impl Run {
     /// Nothing was read yet, and version 0 is in force.
-    pub fn new() -> Run
-        ensures { result ≡ opening }
+    pub fn new(alloc: Global) -> Result<Run, Memory>
+        ensures { IfOk result (λ run. run ≡ opening) }
     {
-        Run {
+        let Ok(lists) = Lists::build(alloc, ListParts::new(alloc)) else {
+            return Err(Memory);
+        };
+        Ok(Run {
             lines: 0,
             requests: 0,
             version: 0,
             deployed: Deployed { rule: None },
             any_bad: false,
-        }
+            lists,
+        })
     }
 
     /// A line that changes nothing and is not answered.
@@ -82,7 +96,8 @@ impl Run {
         Ok(())
     }
 
-    /// A deployment: it is put in force, or refused where its form is not taken.
+    /// A deployment: it is put in force, or refused where it is not taken.
+    #[tactic(auto, using(crate::proofs::RunLemmas::deployment_taken, crate::proofs::RunLemmas::deployment_refused))]
     fn deploy(
         &mut self,
         alloc: Global,
@@ -90,9 +105,9 @@ impl Run {
         answer: &mut TextBuilder,
     ) -> Result<(), Memory>
         requires { self.old.lines < 2 ^ 40 }
-        ensures { OnOk result (Came (redeployed self.old (deployment_of (view value.now))) answer.new self.new) }
+        ensures { OnOk result (AnsweredDeployment self.old (view value.now) answer.new self.new) }
     {
-        let Some(deployed) = deployment_of(alloc, value)? else {
+        let Some(deployed) = deployed_by(alloc, value)? else {
             return self.refuse(answer);
         };
         answer.clear();
@@ -116,7 +131,7 @@ impl Run {
         let parts = LineParts {
             number: self.requests + 1,
             version: self.version,
-            verdict: verdict_of(alloc, &self.deployed, &request)?,
+            verdict: verdict_of(alloc, &self.deployed, &request, &self.lists)?,
             request,
         };
         answer.clear();

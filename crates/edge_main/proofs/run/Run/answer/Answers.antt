@@ -1,11 +1,9 @@
 use Rattle.std.proofs.Common.{Err, refl, subst, ap, inl, ◌∙◌}
 use Rattle.serde_json.specs.View.{view}
 use Rattle.trace_form.specs.Item.{IsItem}
-use Rattle.edge_main.specs.Answered.{passed_by, refused, redeployed, judged}
-use Rattle.edge_main.specs.Deployment.{deployment_of}
+use Rattle.edge_main.specs.Answered.{passed_by, refused, judged}
 use Rattle.edge_main.specs.Output as answered
-use Rattle.edge_main.proofs.OutputLemmas.{deployment-answered}
-use Rattle.edge_main.proofs.RunLemmas.{OnOk-said, unsupported}
+use Rattle.edge_main.proofs.RunLemmas.{OnOk-said, unsupported, deployment-answered}
 use Rattle.edge_main.proofs.run.Run.answer.Goals as goal
 
 pub returns-in-Ok-Blank : goal.returns-in-Ok-Blank
@@ -15,12 +13,9 @@ returns-in-Ok-Blank c =
 
 pub returns-in-Ok-Deploy : goal.returns-in-Ok-Deploy
 returns-in-Ok-Deploy c =
-    let s = c.args.self.now in
     let value = view c.in-Ok-Deploy.value in
     let deploy = subst (IsItem c.args.given.now) c.in-Ok-Deploy.field-0-is c.in-Ok-Deploy.ensures.ok in
-    OnOk-said c.deploy.result _ _
-    (λ came. (redeployed s (deployment_of value), deployment-answered s c.args.given.now value deploy (deployment_of value) refl, came))
-    c.deploy.ensures
+    OnOk-said c.deploy.result _ _ (λ came. deployment-answered c.args.self.now c.args.given.now value _ _ deploy came) c.deploy.ensures
 
 pub returns-in-Ok-Ask : goal.returns-in-Ok-Ask
 returns-in-Ok-Ask c =
