@@ -16,8 +16,6 @@ mod ruleset;
 mod shared;
 mod skips;
 mod spoken;
-#[cfg(test)]
-mod tests;
 mod verdict;
 
 pub use act::{Act, Redirect};
