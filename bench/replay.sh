@@ -1,7 +1,8 @@
 #!/usr/bin/env bash
-# Measures `edge replay` on a million request lines behind a deployment, beside plain Rust that does the same.
+# Measures `edge replay` on a million request lines behind a deployment, beside plain Rust that does the same. Three inputs
+# differ in the one rule: the path is compared; three tests of three fields; a hundred tests of the path in one expression.
 # usage: bench/replay.sh [LINES]      needs: the built program, cargo, python3 and Debian's librust-serde-json-dev
-# Prints for each program the best and the median of five runs, and the ratio of the two; the outputs are compared.
+# Prints for each input and program the best and the median of five runs, and the ratio of the two; the outputs are compared.
 set -eu
 here=$(cd "$(dirname "$0")" && pwd)
 edge=$here/../crates/edge/out/edge
@@ -19,25 +20,44 @@ done
 plain=$here/plain/target/release/plain
 mkdir -p "$here/out"
 
-python3 - "$lines" >"$here/out/input.jsonl" <<'P'
-import sys
-n = int(sys.argv[1])
-out = sys.stdout
-out.write('{"deploy":{"rulesets":[{"id":"fw","kind":"zone","phase":"http_request_firewall_custom","rules":[{"id":"b1","expression":"http.request.uri.path eq \\"/p7\\"","action":"block"}]}]}}\n')
-x, t = 7, 0
-for _ in range(n):
-    x = (x * 6364136223846793005 + 1442695040888963407) % 2**64
-    r = x >> 33
-    t += (r // 128) % 2000
-    out.write('{"at":%d,"ip":"10.0.0.%d","method":"GET","target":"/p%d?q=%d","headers":[["host","a.example"],["user-agent","curl/8.5.0"],["accept","*/*"]]}\n' % (t, r % 16, (r // 16) % 8, r % 1000))
+python3 - "$lines" "$here/out" <<'P'
+import json, sys
+n, folder = int(sys.argv[1]), sys.argv[2]
+others = ['r%02d' % k for k in range(99)]
+expressions = {
+    'path': 'http.request.uri.path eq "/p7"',
+    'three': 'http.request.method eq "GET" and http.request.uri.path eq "/p7" and not http.request.headers["user-agent"][0] contains "bot"',
+    'hundred': ' or '.join('http.request.uri.path eq "/%s"' % name for name in others + ['p7']),
+}
+
+def requests():
+    x, t = 7, 0
+    for _ in range(n):
+        x = (x * 6364136223846793005 + 1442695040888963407) % 2**64
+        r = x >> 33
+        t += (r // 128) % 2000
+        yield '{"at":%d,"ip":"10.0.0.%d","method":"GET","target":"/p%d?q=%d","headers":[["host","a.example"],["user-agent","curl/8.5.0"],["accept","*/*"]]}\n' % (t, r % 16, (r // 16) % 8, r % 1000)
+
+outs = [open(folder + '/' + name + '.jsonl', 'w') for name in expressions]
+for out, expression in zip(outs, expressions.values()):
+    assert len(expression) <= 4096
+    rule = {'id': 'b1', 'expression': expression, 'action': 'block'}
+    ruleset = {'id': 'fw', 'kind': 'zone', 'phase': 'http_request_firewall_custom', 'rules': [rule]}
+    out.write(json.dumps({'deploy': {'rulesets': [ruleset]}}) + '\n')
+for line in requests():
+    for out in outs:
+        out.write(line)
 P
 
-python3 - "$edge" "$plain" "$here/out" "$lines" <<'P'
+measure() { # the input, and the word for the plain program, if it wants one
+  echo "$1:"
+  python3 - "$edge" "$plain" "$here/out" "$lines" "$@" <<'P'
 import os, statistics, subprocess, sys, time
 edge, plain, folder, lines = sys.argv[1], sys.argv[2], sys.argv[3], int(sys.argv[4])
+input_name, word = sys.argv[5], sys.argv[6:]
 
 def run(name, words):
-    with open(folder + '/input.jsonl', 'rb') as given, open(folder + '/' + name + '.out', 'wb') as out:
+    with open(folder + '/' + input_name + '.jsonl', 'rb') as given, open(folder + '/' + name + '.out', 'wb') as out:
         begun = time.perf_counter()
         child = subprocess.Popen(words, stdin=given, stdout=out)
         peak = 0
@@ -62,7 +82,7 @@ def peak_of(pid):
         pass
     return 0
 
-programs = {'edge': [edge, 'replay'], 'plain': [plain]}
+programs = {'edge': [edge, 'replay'], 'plain': [plain] + word}
 runs = {name: [] for name in programs}
 for _ in range(5):
     for name, words in programs.items():
@@ -76,4 +96,9 @@ best = min(r[0] for r in runs['plain']) / min(r[0] for r in runs['edge'])
 median = statistics.median(r[0] for r in runs['plain']) / statistics.median(r[0] for r in runs['edge'])
 print('ratio  best %.2f, median %.2f (above 1: edge is faster)' % (best, median))
 P
-cmp "$here/out/edge.out" "$here/out/plain.out" && echo "the outputs are equal"
+  cmp "$here/out/edge.out" "$here/out/plain.out" && echo "the outputs are equal"
+}
+
+measure path
+measure three three
+measure hundred hundred

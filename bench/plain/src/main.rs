@@ -1,5 +1,6 @@
 //! The yardstick of `bench/replay.sh`: plain Rust that reads the same lines with `serde_json`, judges the same rule
-//! and writes the same bytes as `edge replay`.
+//! and writes the same bytes as `edge replay`. Without a word it reads the rule's expression, which compares the path; with
+//! the word `three` or `hundred` the condition is the one written here by hand, whatever the expression is.
 use serde_json::Value;
 use std::io::{self, BufRead, BufReader, BufWriter, Write};
 
@@ -7,9 +8,7 @@ use std::io::{self, BufRead, BufReader, BufWriter, Write};
 const LONGEST: usize = 1 << 20;
 
 struct Header {
-    #[allow(dead_code)]
     name: String,
-    #[allow(dead_code)]
     value: String,
 }
 
@@ -18,17 +17,33 @@ struct Request {
     at: u64,
     #[allow(dead_code)]
     from: u32,
-    #[allow(dead_code)]
     method: String,
     target: String,
-    #[allow(dead_code)]
     headers: Vec<Header>,
+}
+
+/// When a rule blocks.
+enum Condition {
+    /// The path is this.
+    Path(Vec<u8>),
+    /// Three tests of three fields.
+    Three,
+    /// The path is one of these.
+    OneOf(Vec<Vec<u8>>),
+}
+
+/// Which condition the word on the command line names.
+#[derive(Clone, Copy)]
+enum Work {
+    Read,
+    Three,
+    Hundred,
 }
 
 struct Rule {
     set_id: String,
     id: String,
-    path: Vec<u8>,
+    condition: Condition,
 }
 
 enum Item {
@@ -136,20 +151,49 @@ fn has(value: &Value, name: &str, wanted: &str) -> bool {
     value.get(name).and_then(Value::as_str) == Some(wanted)
 }
 
-fn rule(set_id: &str, value: &Value) -> Option<Rule> {
+fn condition(work: Work, expression: &str) -> Option<Condition> {
+    match work {
+        Work::Read => Some(Condition::Path(path_of_form(expression.as_bytes())?)),
+        Work::Three => Some(Condition::Three),
+        Work::Hundred => {
+            let others = (0..99).map(|n| format!("/r{n:02}").into_bytes());
+            Some(Condition::OneOf(others.chain([b"/p7".to_vec()]).collect()))
+        }
+    }
+}
+
+fn first_header<'a>(request: &'a Request, name: &str) -> Option<&'a str> {
+    let found = request.headers.iter().find(|header| header.name.eq_ignore_ascii_case(name))?;
+    Some(&found.value)
+}
+
+fn is_met(condition: &Condition, request: &Request) -> bool {
+    let path = path_of(request.target.as_bytes());
+    match condition {
+        Condition::Path(wanted) => path == wanted,
+        Condition::Three => {
+            request.method == "GET"
+                && path == b"/p7"
+                && !first_header(request, "user-agent").is_some_and(|agent| agent.contains("bot"))
+        }
+        Condition::OneOf(paths) => paths.iter().any(|wanted| path == wanted),
+    }
+}
+
+fn rule(work: Work, set_id: &str, value: &Value) -> Option<Rule> {
     if value.as_object()?.len() != 3 || !has(value, "action", "block") {
         return None;
     }
     let id = value.get("id")?.as_str().filter(|id| is_id(id))?;
-    let path = path_of_form(value.get("expression")?.as_str()?.as_bytes())?;
+    let condition = condition(work, value.get("expression")?.as_str()?)?;
     Some(Rule {
         set_id: set_id.to_string(),
         id: id.to_string(),
-        path,
+        condition,
     })
 }
 
-fn deployment(value: &Value) -> Option<Option<Rule>> {
+fn deployment(work: Work, value: &Value) -> Option<Option<Rule>> {
     if value.as_object()?.len() != 1 {
         return None;
     }
@@ -165,11 +209,11 @@ fn deployment(value: &Value) -> Option<Option<Rule>> {
     let set_id = set.get("id")?.as_str().filter(|id| is_id(id))?;
     match only(set, "rules")? {
         None => Some(None),
-        Some(value) => Some(Some(rule(set_id, value)?)),
+        Some(value) => Some(Some(rule(work, set_id, value)?)),
     }
 }
 
-fn item(line: &[u8]) -> Option<Item> {
+fn item(work: Work, line: &[u8]) -> Option<Item> {
     if line.len() > LONGEST {
         return None;
     }
@@ -178,7 +222,7 @@ fn item(line: &[u8]) -> Option<Item> {
     }
     let value: Value = serde_json::from_slice(line).ok()?;
     match value.get("deploy") {
-        Some(deploy) if value.as_object()?.len() == 1 => deployment(deploy).map(Item::Deploy),
+        Some(deploy) if value.as_object()?.len() == 1 => deployment(work, deploy).map(Item::Deploy),
         Some(_) => None,
         None => request(&value).map(Item::Ask),
     }
@@ -216,6 +260,12 @@ fn escaped(out: &mut impl Write, text: &[u8]) -> io::Result<()> {
 }
 
 fn main() -> io::Result<()> {
+    let work = match std::env::args().nth(1).as_deref() {
+        None => Work::Read,
+        Some("three") => Work::Three,
+        Some("hundred") => Work::Hundred,
+        Some(_) => std::process::exit(2),
+    };
     let mut input = BufReader::with_capacity(1 << 20, io::stdin().lock());
     let mut out = BufWriter::with_capacity(1 << 16, io::stdout().lock());
     let (mut lines, mut requests, mut version) = (0u64, 0u64, 0u64);
@@ -231,7 +281,7 @@ fn main() -> io::Result<()> {
             line.pop();
         }
         lines += 1;
-        match item(&line) {
+        match item(work, &line) {
             None => {
                 any_bad = true;
                 writeln!(out, "bad {lines} Unsupported")?;
@@ -246,7 +296,7 @@ fn main() -> io::Result<()> {
                 requests += 1;
                 let target = request.target.as_bytes();
                 write!(out, "{requests} v{version} ")?;
-                match deployed.as_ref().filter(|rule| path_of(target) == rule.path) {
+                match deployed.as_ref().filter(|rule| is_met(&rule.condition, &request)) {
                     None => out.write_all(b"pass - ")?,
                     Some(rule) => write!(out, "block:403 {}/{} ", rule.set_id, rule.id)?,
                 }

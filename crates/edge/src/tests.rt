@@ -3,6 +3,8 @@ ghost use Rattle.std.specs.Prelude.{IfOk};
 ghost use Rattle.edge_fields.specs.Schemes.{AreLists};
 
 mod checking;
+mod evaluating;
+mod replaying;
 
 use edge_base::Text;
 use edge_fields::{Basic, ListKinds};
