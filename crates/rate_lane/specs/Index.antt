@@ -34,6 +34,10 @@ abbrev pub live_at : ℕ → Option KeyState → Option KeyState
 live_at at None = None
 live_at at (Some state) = cond (nat_lt at state.live_until) (Some state) None
 
+-- the same keys are live at the moment, in the same states
+abbrev pub AreLiveAlike : ℕ → Entries → Entries → Type 0
+AreLiveAlike at before after = (key : KeyParts) → live_at at (state_of after key) ≡ live_at at (state_of before key)
+
 -- how many of the keys are live
 abbrev pub live_among : ℕ → Entries → ℕ
 live_among at entries = count_by (λ entry. nat_lt at entry.1.live_until) entries

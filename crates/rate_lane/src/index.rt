@@ -4,7 +4,7 @@ ghost use Rattle.std.specs.Map.{keys_of};
 ghost use Rattle.indexmap.specs.IndexMap.{spare};
 ghost use Rattle.rate_plain.specs.KeyParts.{KeyParts};
 ghost use Rattle.rate_plain.specs.Keys.{same_key};
-ghost use Rattle.rate_lane.specs.Index.{state_of, IsOrdered, low_count, live_at, live_among};
+ghost use Rattle.rate_lane.specs.Index.{state_of, IsOrdered, low_count, live_at, live_among, AreLiveAlike};
 
 use crate::key_state::KeyState;
 use crate::order::{NEVER, Order};
@@ -22,7 +22,7 @@ fn settle(index: &mut Index, order: &mut Order, place: usize, at: Moment)
     requires low { (place < length order.old) × (slice_index_or order.old place 0 ≤ at) }
     ensures ordered { IsOrdered index.new.entries order.new }
     ensures places { length order.new ≡ length order.old }
-    ensures live { (key : KeyParts) → live_at at (state_of index.new.entries key) ≡ live_at at (state_of index.old.entries key) }
+    ensures live { AreLiveAlike at index.old.entries index.new.entries }
     ensures fewer { low_count at order.new + 1 ≡ low_count at order.old }
     ensures spare { spare index.old ≤ spare index.new }
 {
