@@ -1,10 +1,10 @@
 -- Each deployment is taken or refused; one without patterns is not both, and puts one thing in force.
-use Rattle.std.proofs.Common.{◌≡◌, ◌≢◌, ◌⊎◌, ℕ, false, List, [], Option, Some, None, Result, Ok, Err, refl, sym, ap, subst, ◌∙◌, inl, inr}
+use Rattle.std.proofs.Common.{◌≡◌, ◌⊎◌, ℕ, false, List, [], Option, Some, None, Ok, Err, refl, sym, ap, subst, ◌∙◌, inl, inr}
 use Rattle.std.proofs.lemmas.Option.{none-some, same_Some}
 use Rattle.std.specs.List.{list_any}
 use Rattle.serde_json.specs.Data.{Data}
 use Rattle.edge_base.specs.declared.expression.Expr.{Expr}
-use Rattle.expr_parser.specs.Parsed.{IsAnswer, HasAnswer, AnswersAreUnique}
+use Rattle.expr_parser.specs.Parsed.{HasAnswer, AnswersAreUnique}
 use Rattle.expr_parser.proofs.EachAnswered as parser
 use Rattle.type_check.specs.Checking.{is_pattern}
 use Rattle.type_check.specs.Checking.{IsAnswer as IsCheckAnswer}

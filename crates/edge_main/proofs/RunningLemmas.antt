@@ -14,8 +14,8 @@ use Rattle.edge_main.specs.declared.replay.Turn.{Turn}
 use Rattle.edge_main.specs.declared.replay.Turn.TheVariants as turn
 use Rattle.edge_main.specs.declared.replay.RunFault.{RunFault}
 use Rattle.edge_main.specs.declared.replay.RunFault.TheVariants as fault
-use Rattle.edge_main.specs.Answered.{RunState, opening, Answered}
-use Rattle.edge_main.specs.Output.{IsRun, IsOutput, texts_of}
+use Rattle.edge_main.specs.Answered.{RunState, opening}
+use Rattle.edge_main.specs.Output.{IsRun, texts_of}
 use Rattle.edge_main.specs.Ended.{WroteOutput, WroteFront, WroteAnswers, IsBegun, WroteWhole, Ended, TookInput, IsJudged}
 use Rattle.edge_main.specs.Running.{TookLine, Reached, Progress, StoppedBy, TurnOf, IsOpening, TookMore, status_of}
 use Rattle.edge_main.proofs.OutputLemmas.{some_run, run-append, texts-append}

@@ -1,6 +1,7 @@
 -- What the top call promises where it ended with a status: of what was written, and of what was taken.
-use Rattle.std.specs.Prelude.{◌≡◌, ℕ, ◌^◌, ◌↔◌, ◌⊎◌, Bool, true, false, List, [], ◌++◌, length, Option, Some}
+use Rattle.std.specs.Prelude.{◌≡◌, ℕ, ◌<◌, ◌^◌, ◌↔◌, ◌⊎◌, Bool, true, false, List, [], ◌++◌, length, Option, Some}
 use Rattle.std.specs.Io.KnownBytes.{Appends, Consumes}
+use Rattle.edge_outside.specs.Faults.{Rose}
 use Rattle.edge_outside.specs.Lines.{lines_of, NoNewline}
 use Rattle.edge_main.specs.declared.statuses.Status.{Status}
 use Rattle.edge_main.specs.declared.statuses.Status.TheVariants as status
@@ -59,3 +60,27 @@ pub record TookInput (left_before left_after taken_before taken_after : Option (
 -- the input was judged whole
 abbrev pub IsJudged : Status → Type 0
 IsJudged ended = (ended ≡ status.Done) ⊎ (ended ≡ status.BadItems)
+
+-- ---- what the contract says of the outside, which is told by its counts of faults, by what is left to read and by what was got
+
+-- this was said, where no write failed
+abbrev pub Says : {E : Type 0} → (E → ℕ) → (E → Option (List ℕ)) → E → E → List ℕ → Type 0
+Says faults got before after text = ¬ (Rose (faults before) (faults after)) → Appends (got before) (got after) text
+
+-- what was written on this input is what the status promises
+abbrev pub EndsAs : {I O : Type 0} → (I → Option (List ℕ)) → (O → Option (List ℕ)) → Status → I → O → O → Type 0
+EndsAs left got ended input before after =
+    (text : List ℕ) → left input ≡ Some text → Ended ended text (got before) (got after)
+
+-- where no write failed, the answers of whole lines were written
+abbrev pub AnswersWhole : {I O : Type 0} → (I → Option (List ℕ)) → (O → ℕ) → (O → Option (List ℕ)) → Status → I → I → O → O → Type 0
+AnswersWhole left faults got ended input input' before after =
+    ¬ (Rose (faults before) (faults after)) → (text : List ℕ) → left input ≡ Some text
+    → WroteWhole ended text (left input') (got before) (got after)
+
+-- where no read and no write failed and the input had fewer than 2^40 bytes, it was judged whole, or memory was refused
+abbrev pub IsComplete : {I O : Type 0} → (I → ℕ) → (I → Option (List ℕ)) → (O → ℕ) → Status → I → I → O → O → Type 0
+IsComplete reads left writes ended input input' before after =
+    ¬ (Rose (reads input) (reads input')) → ¬ (Rose (writes before) (writes after))
+    → (text rest : List ℕ) → left input ≡ Some text → left input' ≡ Some rest → length text < 2 ^ 40
+    → IsJudged ended ⊎ (ended ≡ status.Memory)

@@ -1,7 +1,8 @@
 -- The loop of `replay`: what stands between two lines. No public clause cites these words.
-use Rattle.std.specs.Prelude.{◌≡◌, ℕ, ◌+◌, ◌≤◌, ◌^◌, ◌⊎◌, List, [], ◌++◌, length, take, Option, Some, Result, Ok, Err, ⊤}
+use Rattle.std.specs.Prelude.{◌≡◌, ◌≢◌, ℕ, ◌+◌, ◌<◌, ◌≤◌, ◌^◌, ◌⊎◌, List, [], ◌++◌, length, Option, Some, Result, Ok, Err}
 use Rattle.std.specs.Io.KnownBytes.{Appends, Consumes}
 use Rattle.edge_outside.specs.declared.line_reader.LineReader.{LineReader}
+use Rattle.edge_outside.specs.Faults.{Rose}
 use Rattle.edge_outside.specs.Lines.{lines_of}
 use Rattle.edge_outside.specs.Reading.{Stands, weight}
 use Rattle.edge_main.specs.declared.statuses.Status.{Status}
@@ -15,7 +16,7 @@ use Rattle.serde_json.specs.Data.{Data}
 use Rattle.edge_main.specs.InForce.{InForce, IsTaken, IsNotTaken}
 use Rattle.edge_main.specs.Answered.{RunState, opening, Answered, refused, put_in_force}
 use Rattle.edge_main.specs.Output.{IsAnswered, IsRun, texts_of}
-use Rattle.edge_main.specs.Ended.{WroteFront, IsBegun}
+use Rattle.edge_main.specs.Ended.{Ended, WroteFront, WroteAnswers, WroteWhole, IsBegun}
 
 -- this is the text that was made, and so far the run has come
 abbrev pub Came : Answered → List ℕ → RunState → Type 0
@@ -95,3 +96,54 @@ pub record IsUnderWay (replay : Replay) (left_before left taken_before taken got
   pub consumed : Consumes left_before left bytes
   pub appended : Appends taken_before taken bytes
   pub counted : replay.reader.taken ≡ length bytes
+
+-- ---- the clauses of the loop, over what the outside tells
+
+-- what is pending and was written is what was pending before
+abbrev pub WrotePending : Option (List ℕ) → Option (List ℕ) → List ℕ → List ℕ → Type 0
+WrotePending got got' pending pending' = (written : List ℕ) × Appends got got' written × (written ++ pending' ≡ pending)
+
+-- a replay has answered a line and added the answer to what is pending
+abbrev pub TakesLine : Replay → List ℕ → Replay → Type 0
+TakesLine replay given replay' = TookLine replay.run given replay.pending replay'.run replay'.pending
+
+-- the same of any line that is too long
+abbrev pub TakesLong : Replay → Replay → Type 0
+TakesLong replay replay' = (given : List ℕ) → 2 ^ 20 < length given → TakesLine replay given replay'
+
+-- what a turn makes of the answers so far
+abbrev pub Turns : Result Turn RunFault → Replay → Replay → (left left' got got' : Option (List ℕ)) → Type 0
+Turns turn replay replay' left left' got got' = (before : Option (List ℕ)) (text : List ℕ)
+    → Progress replay.run replay.reader left before got replay.pending text
+    → TurnOf turn replay'.run replay'.reader left' before got' replay'.pending text
+
+-- a turn that writes nothing
+abbrev pub TurnsWithin : Result Turn RunFault → Replay → Replay → (left left' : Option (List ℕ)) → Type 0
+TurnsWithin turn replay replay' left left' = (before now : Option (List ℕ)) (text : List ℕ)
+    → Progress replay.run replay.reader left before now replay.pending text
+    → TurnOf turn replay'.run replay'.reader left' before now replay'.pending text
+
+-- bytes were taken from a source, and the reader has counted them
+abbrev pub TookOf : {I : Type 0} → (I → Option (List ℕ)) → (I → Option (List ℕ)) → I → I → LineReader → LineReader → Type 0
+TookOf left taken input input' reader reader' = TookMore (left input) (left input') (taken input) (taken input') reader reader'
+
+-- the end of the input: what is pending is written, and the run ends as its status promises
+abbrev pub ClosesAs : Replay → Status → (got got' : Option (List ℕ)) → Type 0
+ClosesAs replay ended got got' = (before : Option (List ℕ)) (text : List ℕ)
+    → Reached replay.run before got replay.pending text [] → Ended ended text before got'
+
+-- where no write failed, the answers of all lines were written then
+abbrev pub ClosesWhole : {O : Type 0} → (O → ℕ) → (O → Option (List ℕ)) → Replay → O → O → Type 0
+ClosesWhole faults got replay out out' = ¬ (Rose (faults out) (faults out')) → (before : Option (List ℕ)) (text : List ℕ)
+    → Reached replay.run before (got out) replay.pending text [] → WroteAnswers text [] before (got out')
+
+-- a run that is cut off ends as its status promises
+abbrev pub StopsAs : Replay → RunFault → Status → (got got' : Option (List ℕ)) → Type 0
+StopsAs replay cause ended got got' = (left before : Option (List ℕ)) (text : List ℕ)
+    → StoppedBy cause left before got replay.pending text → Ended ended text before got'
+
+-- where no write failed, neither before nor now, the answers of whole lines were written then
+abbrev pub StopsWhole : {O : Type 0} → (O → ℕ) → (O → Option (List ℕ)) → Replay → RunFault → Status → O → O → Type 0
+StopsWhole faults got replay cause ended out out' =
+    cause ≢ fault.Write → ¬ (Rose (faults out) (faults out')) → (left before : Option (List ℕ)) (text : List ℕ)
+    → StoppedBy cause left before (got out) replay.pending text → WroteWhole ended text left before (got out')

@@ -59,7 +59,7 @@ fn id_of(value: &Value) -> Option<&[u8]>
 
 /// The element of a list that has at most one; no answer for a longer list.
 fn at_most_one(values: &[Value]) -> Option<Option<&Value>>
-    ensures { option_map (λ only. option_map (λ value. view value.now) only) result ≡ at_most_one (items_view values.now) }
+    ensures { option_map (option_map (λ value. view value.now)) result ≡ at_most_one (items_view values.now) }
 {
     match values {
         [] => Some(None),
@@ -70,7 +70,7 @@ fn at_most_one(values: &[Value]) -> Option<Option<&Value>>
 
 /// The element of an array member that has at most one.
 fn only_of<'a>(value: &'a Value, name: &str) -> Option<Option<&'a Value>>
-    ensures { option_map (λ only. option_map (λ value. view value.now) only) result ≡ only_of name.now (view value.now) }
+    ensures { option_map (option_map (λ value. view value.now)) result ≡ only_of name.now (view value.now) }
 {
     let values = value.get(name).and_then(Value::as_array)?;
     at_most_one(values.as_slice())

@@ -3,7 +3,7 @@ ghost use Rattle.std.specs.Io.KnownBytes.{Appends};
 ghost use Rattle.edge_outside.specs.Faults.{Rose};
 ghost use Rattle.edge_main.specs.Statuses.{said_of};
 ghost use Rattle.edge_main.specs.Words.{is_replay};
-ghost use Rattle.edge_main.specs.Ended.{IsJudged, Ended, WroteWhole, TookInput};
+ghost use Rattle.edge_main.specs.Ended.{IsJudged, TookInput, Says, EndsAs, AnswersWhole, IsComplete};
 
 use crate::replay::replay_input;
 use crate::statuses::Status;
@@ -14,7 +14,7 @@ use std::hash::RandomState;
 
 /// Tells the operator how a run ended; a fault of this changes nothing.
 fn tell<E: Sink>(status: Status, said: &mut E)
-    ensures { ¬ (Rose (E.faults said.old) (E.faults said.new)) → Appends (E.got said.old) (E.got said.new) (said_of status) }
+    ensures { Says E.faults E.got said.old said.new (said_of status) }
 {
     let _ = write_all(said, status.said());
 }
@@ -31,20 +31,16 @@ pub fn edge_quiet<S: Source, K: Sink, E: Sink>(
     requires { vec_len hashers ≡ 64 }
     ensures usage { (result ≡ Status.Usage) ↔ (is_replay (map (λ word. word.now) words.now) ≡ false) }
     ensures usage_kept { result ≡ Status.Usage → (input.new ≡ input.old) × (out.new ≡ out.old) }
-    ensures ended { (text : List ℕ) → S.left input.old ≡ Some text → Ended result text (K.got out.old) (K.got out.new) }
-    ensures answered { ¬ (Rose (K.faults out.old) (K.faults out.new)) → (text : List ℕ) → S.left input.old ≡ Some text
-        → WroteWhole result text (S.left input.new) (K.got out.old) (K.got out.new) }
+    ensures ended { EndsAs S.left K.got result input.old out.old out.new }
+    ensures answered { AnswersWhole S.left K.faults K.got result input.old input.new out.old out.new }
     ensures read { result ≡ Status.ReadFault → Rose (S.faults input.old) (S.faults input.new) }
     ensures input_kept { result ≢ Status.ReadFault → S.faults input.new ≡ S.faults input.old }
     ensures write { result ≡ Status.WriteFault → Rose (K.faults out.old) (K.faults out.new) }
     ensures out_kept { IsJudged result → K.faults out.new ≡ K.faults out.old }
     ensures never { (result ≢ Status.AcceptFault) × (result ≢ Status.Spent) }
     ensures took { TookInput (S.left input.old) (S.left input.new) (S.taken input.old) (S.taken input.new) result }
-    ensures said { ¬ (Rose (E.faults said.old) (E.faults said.new)) → Appends (E.got said.old) (E.got said.new) (said_of result) }
-    ensures complete { ¬ (Rose (S.faults input.old) (S.faults input.new)) → ¬ (Rose (K.faults out.old) (K.faults out.new))
-        → is_replay (map (λ word. word.now) words.now) ≡ true
-        → (text rest : List ℕ) → S.left input.old ≡ Some text → S.left input.new ≡ Some rest → length text < 2 ^ 40
-        → IsJudged result ⊎ (result ≡ Status.Memory) }
+    ensures said { Says E.faults E.got said.old said.new (said_of result) }
+    ensures complete { result ≢ Status.Usage → IsComplete S.faults S.left K.faults result input.old input.new out.old out.new }
 {
     if !is_replay(words) {
         tell(Status::Usage, said);

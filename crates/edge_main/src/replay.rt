@@ -2,8 +2,9 @@ ghost use Rattle.std.specs.Prelude.{◌≡◌, ◌≢◌, ◌+◌, ◌≤◌, �
 ghost use Rattle.std.specs.Io.KnownBytes.{Appends};
 ghost use Rattle.edge_outside.specs.Faults.{Rose};
 ghost use Rattle.edge_outside.specs.Reading.{line_of, weight};
-ghost use Rattle.edge_main.specs.Ended.{IsJudged, Ended, TookInput, WroteAnswers, WroteWhole};
-ghost use Rattle.edge_main.specs.Running.{TookLine, Reached, Progress, StoppedBy, TurnOf, TookMore, IsOpening, status_of};
+ghost use Rattle.edge_main.specs.Ended.{IsJudged, TookInput, EndsAs, AnswersWhole};
+ghost use Rattle.edge_main.specs.Running.{IsOpening, WrotePending, TakesLine, TakesLong, Turns, TurnsWithin, TookOf, status_of};
+ghost use Rattle.edge_main.specs.Running.{ClosesAs, ClosesWhole, StopsAs, StopsWhole};
 
 use crate::run::Run;
 use crate::statuses::Status;
@@ -59,7 +60,7 @@ impl From<Memory> for RunFault {
 
 /// Writes what is pending, where it is enough for a piece.
 fn write_piece<K: Sink>(pending: &mut TextBuilder, out: &mut K) -> Result<(), Failed>
-    ensures ok { OnOk result ((written : List ℕ) × Appends (K.got out.old) (K.got out.new) written × (written ++ pending.new ≡ pending.old)) }
+    ensures ok { OnOk result (WrotePending (K.got out.old) (K.got out.new) pending.old pending.new) }
     ensures err { OnErr result ((count : ℕ) × Appends (K.got out.old) (K.got out.new) (take count pending.old)) }
     ensures kept { OnOk result (K.faults out.new ≡ K.faults out.old) }
     ensures failed { OnErr result (Rose (K.faults out.old) (K.faults out.new)) }
@@ -96,7 +97,7 @@ impl Replay {
     /// Answers the line that was read, and adds the answer to what is pending: whole, or not at all.
     fn take_line(&mut self, alloc: Global) -> Result<(), Memory>
         requires { self.old.run.lines < 2 ^ 40 }
-        ensures ok { OnOk result (TookLine self.old.run (line_of self.old.reader) self.old.pending self.new.run self.new.pending) }
+        ensures ok { OnOk result (TakesLine self.old (line_of self.old.reader) self.new) }
         ensures err { OnErr result (self.new.pending ≡ self.old.pending) }
         ensures lines { OnOk result (self.new.run.lines ≡ self.old.run.lines + 1) }
         ensures reader { self.new.reader ≡ self.old.reader }
@@ -109,7 +110,7 @@ impl Replay {
     /// The same for a line that is too long to be an item.
     fn take_long(&mut self) -> Result<(), Memory>
         requires { self.old.run.lines < 2 ^ 40 }
-        ensures ok { OnOk result ((given : List ℕ) → 2 ^ 20 < length given → TookLine self.old.run given self.old.pending self.new.run self.new.pending) }
+        ensures ok { OnOk result (TakesLong self.old self.new) }
         ensures err { OnErr result (self.new.pending ≡ self.old.pending) }
         ensures lines { OnOk result (self.new.run.lines ≡ self.old.run.lines + 1) }
         ensures reader { self.new.reader ≡ self.old.reader }
@@ -121,16 +122,14 @@ impl Replay {
     /// Reads the next line and answers it, or ends. The answer is then pending.
     fn take_next<S: Source>(&mut self, alloc: Global, input: &mut S) -> Result<Turn, RunFault>
         requires { self.old.run.lines + weight self.old.reader ≤ 2 ^ 40 }
-        ensures turn { (before now : Option (List ℕ)) (text : List ℕ)
-            → Progress self.old.run self.old.reader (S.left input.old) before now self.old.pending text
-            → TurnOf result self.new.run self.new.reader (S.left input.new) before now self.new.pending text }
+        ensures turn { TurnsWithin result self.old self.new (S.left input.old) (S.left input.new) }
         ensures falls { result ≡ Ok Turn.Next → weight self.new.reader < weight self.old.reader }
         ensures room { result ≡ Ok Turn.Next → self.new.run.lines + weight self.new.reader ≤ 2 ^ 40 }
         ensures read { result ≡ Err RunFault.Read → Rose (S.faults input.old) (S.faults input.new) }
         ensures input_kept { result ≢ Err RunFault.Read → S.faults input.new ≡ S.faults input.old }
         ensures write { result ≢ Err RunFault.Write }
         ensures limit { (result ≡ Err RunFault.LongInput) ↔ (self.new.reader.taken ≡ 2 ^ 40) }
-        ensures took { TookMore (S.left input.old) (S.left input.new) (S.taken input.old) (S.taken input.new) self.old.reader self.new.reader }
+        ensures took { TookOf S.left S.taken input.old input.new self.old.reader self.new.reader }
     {
         match self.reader.next(input) {
             LineStep::Line => self.take_line(alloc)?,
@@ -150,9 +149,7 @@ impl Replay {
         out: &mut K,
     ) -> Result<Turn, RunFault>
         requires { self.old.run.lines + weight self.old.reader ≤ 2 ^ 40 }
-        ensures turn { (before : Option (List ℕ)) (text : List ℕ)
-            → Progress self.old.run self.old.reader (S.left input.old) before (K.got out.old) self.old.pending text
-            → TurnOf result self.new.run self.new.reader (S.left input.new) before (K.got out.new) self.new.pending text }
+        ensures turn { Turns result self.old self.new (S.left input.old) (S.left input.new) (K.got out.old) (K.got out.new) }
         ensures falls { result ≡ Ok Turn.Next → weight self.new.reader < weight self.old.reader }
         ensures room { result ≡ Ok Turn.Next → self.new.run.lines + weight self.new.reader ≤ 2 ^ 40 }
         ensures read { result ≡ Err RunFault.Read → Rose (S.faults input.old) (S.faults input.new) }
@@ -160,7 +157,7 @@ impl Replay {
         ensures write { result ≡ Err RunFault.Write → Rose (K.faults out.old) (K.faults out.new) }
         ensures out_kept { result ≢ Err RunFault.Write → K.faults out.new ≡ K.faults out.old }
         ensures limit { (result ≡ Err RunFault.LongInput) ↔ (self.new.reader.taken ≡ 2 ^ 40) }
-        ensures took { TookMore (S.left input.old) (S.left input.new) (S.taken input.old) (S.taken input.new) self.old.reader self.new.reader }
+        ensures took { TookOf S.left S.taken input.old input.new self.old.reader self.new.reader }
     {
         let turn = self.take_next(alloc, input)?;
         match write_piece(&mut self.pending, out) {
@@ -171,10 +168,8 @@ impl Replay {
 
     /// The input is at its end: writes what is pending.
     fn close<K: Sink>(&self, out: &mut K) -> Status
-        ensures ended { (before : Option (List ℕ)) (text : List ℕ)
-            → Reached self.now.run before (K.got out.old) self.now.pending text [] → Ended result text before (K.got out.new) }
-        ensures answered { ¬ (Rose (K.faults out.old) (K.faults out.new)) → (before : Option (List ℕ)) (text : List ℕ)
-            → Reached self.now.run before (K.got out.old) self.now.pending text [] → WroteAnswers text [] before (K.got out.new) }
+        ensures ended { ClosesAs self.now result (K.got out.old) (K.got out.new) }
+        ensures answered { ClosesWhole K.faults K.got self.now out.old out.new }
         ensures status { IsJudged result ⊎ (result ≡ Status.WriteFault) }
         ensures write { result ≡ Status.WriteFault → Rose (K.faults out.old) (K.faults out.new) }
         ensures out_kept { result ≢ Status.WriteFault → K.faults out.new ≡ K.faults out.old }
@@ -189,12 +184,8 @@ impl Replay {
     /// changes nothing.
     fn stop<K: Sink>(&self, fault: RunFault, out: &mut K) -> Status
         ensures status { result ≡ status_of fault }
-        ensures ended { (left before : Option (List ℕ)) (text : List ℕ)
-            → StoppedBy fault left before (K.got out.old) self.now.pending text → Ended result text before (K.got out.new) }
-        ensures answered { fault ≢ RunFault.Write → ¬ (Rose (K.faults out.old) (K.faults out.new))
-            → (left before : Option (List ℕ)) (text : List ℕ)
-            → StoppedBy fault left before (K.got out.old) self.now.pending text
-            → WroteWhole result text left before (K.got out.new) }
+        ensures ended { StopsAs self.now fault result (K.got out.old) (K.got out.new) }
+        ensures answered { StopsWhole K.faults K.got self.now fault result out.old out.new }
         ensures later { K.faults out.old ≤ K.faults out.new }
     {
         if let RunFault::Write = fault {
@@ -207,9 +198,8 @@ impl Replay {
 
 /// Judges each line of the input in order, and writes its answer.
 pub fn replay_input<S: Source, K: Sink>(alloc: Global, input: &mut S, out: &mut K) -> Status
-    ensures ended { (text : List ℕ) → S.left input.old ≡ Some text → Ended result text (K.got out.old) (K.got out.new) }
-    ensures answered { ¬ (Rose (K.faults out.old) (K.faults out.new)) → (text : List ℕ) → S.left input.old ≡ Some text
-        → WroteWhole result text (S.left input.new) (K.got out.old) (K.got out.new) }
+    ensures ended { EndsAs S.left K.got result input.old out.old out.new }
+    ensures answered { AnswersWhole S.left K.faults K.got result input.old input.new out.old out.new }
     ensures read { result ≡ Status.ReadFault → Rose (S.faults input.old) (S.faults input.new) }
     ensures input_kept { result ≢ Status.ReadFault → S.faults input.new ≡ S.faults input.old }
     ensures write { result ≡ Status.WriteFault → Rose (K.faults out.old) (K.faults out.new) }

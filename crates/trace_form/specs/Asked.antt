@@ -1,5 +1,5 @@
 -- The request that an object of a line tells.
-use Rattle.std.specs.Prelude.{◌≡◌, ℕ, ◌+◌, ◌^◌, Bool, true, false, ◌&&◌, not, ◌==◌, nat_lt, nat_le, cond, List, [], ◌∷◌, length, codes, Option, Some, None, option_and_then, option_map, bytes_eq}
+use Rattle.std.specs.Prelude.{◌≡◌, ℕ, ◌+◌, ◌^◌, Bool, true, false, ◌&&◌, not, ◌==◌, nat_lt, nat_le, cond, List, [], ◌∷◌, length, codes, Option, Some, None, MatchOption, option_and_then, option_map, bytes_eq}
 use Rattle.std.specs.Bool.{then_some}
 use Rattle.std.specs.List.{list_all}
 use Rattle.serde_json.specs.Data.{Data, Items, no_items, item}
@@ -19,6 +19,10 @@ moment_of value = option_and_then (λ n. then_some (nat_le n (2 ^ 53)) n) (optio
 -- the peer: the text of an address
 abbrev pub IsPeer : Data → Addr → Type 0
 IsPeer value peer = (text : List ℕ) × (text_of (codes "ip") value ≡ Some text) × IsAddrText text peer
+
+-- the peer that was found, or that there is none
+abbrev pub IsPeerFound : Data → Option Addr → Type 0
+IsPeerFound value found = MatchOption found ((peer : Addr) → ¬ (IsPeer value peer)) (λ peer. IsPeer value peer)
 
 -- a member that may be left out: what it is read as, or the default
 abbrev pub member_or : {A : Type 0} → A → (Data → Option A) → Option Data → Option A
@@ -106,3 +110,8 @@ pub record IsRequest (value : Data) (request : Request) : Type 0 where
   pub minor : minor_of value ≡ Some request.minor
   pub headers : headers_of value ≡ Some request.headers
   pub body : request.body ≡ []
+
+-- the request that was found, or that there is none
+abbrev pub IsRequestFound : Data → Option Request → Type 0
+IsRequestFound value found =
+    MatchOption found ((request : Request) → ¬ (IsRequest value request)) (λ request. IsRequest value request)

@@ -4,7 +4,8 @@ ghost use Rattle.std.specs.List.{list_all};
 ghost use Rattle.serde_json.specs.View.{view};
 ghost use Rattle.edge_base.specs.declared.message.Request.{Request};
 ghost use Rattle.edge_base.specs.declared.address.Addr.{Addr};
-ghost use Rattle.trace_form.specs.Asked.{is_method, is_target_byte, is_target, moment_of, IsPeer, ssl_of, minor_in, minor_of, count_there, has_request_members, method_of, target_of, IsRequest};
+ghost use Rattle.trace_form.specs.Asked.{is_method, is_target_byte, is_target, moment_of, IsPeerFound, ssl_of, minor_in, minor_of};
+ghost use Rattle.trace_form.specs.Asked.{count_there, has_request_members, method_of, target_of, IsRequestFound};
 
 use crate::headers::headers_of;
 use crate::members::{has_members, is_token, text_of};
@@ -45,7 +46,7 @@ fn moment_of(value: &Value) -> Option<Moment>
 
 /// The peer.
 fn peer_of(value: &Value) -> Option<Addr>
-    ensures { MatchOption result ((peer : Addr) → ¬ (IsPeer (view value.now) peer)) (λ peer. IsPeer (view value.now) peer) }
+    ensures { IsPeerFound (view value.now) result }
 {
     parse_addr(text_of(value, "ip")?)
 }
@@ -120,7 +121,7 @@ fn target_of(value: &Value) -> Option<&[u8]>
 
 /// The request that an object tells. The texts of the headers are taken out of it.
 pub(crate) fn request_of(alloc: Global, value: Value) -> Result<Option<Request>, Memory>
-    ensures { IfOk result (λ found. MatchOption found ((request : Request) → ¬ (IsRequest (view value) request)) (λ request. IsRequest (view value) request)) }
+    ensures { IfOk result (IsRequestFound (view value)) }
 {
     if !has_request_members(&value) {
         return Ok(None);

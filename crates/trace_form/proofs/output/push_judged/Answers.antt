@@ -1,4 +1,3 @@
-use Rattle.std.specs.Io.{StartsWith}
 use Rattle.std.proofs.lemmas.Result.{on_err_weaker}
 use Rattle.edge_base.proofs.FrontLemmas.{starts_with_added, starts_with_more, starts_with_longer, on_err_from}
 use Rattle.trace_form.proofs.output.push_judged.Goals as goal

@@ -1,4 +1,4 @@
-use Rattle.std.proofs.Common.{[], refl, sym, subst}
+use Rattle.std.proofs.Common.{refl, sym, subst}
 use Rattle.edge_outside.specs.Reading.{Stands, line_of}
 use Rattle.edge_main.specs.Running.{Reached}
 use Rattle.edge_main.proofs.RunningLemmas.{reached-line, begun-stands}
