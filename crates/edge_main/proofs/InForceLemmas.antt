@@ -24,9 +24,11 @@ use Rattle.edge_main.proofs.CheckedLemmas as checked
 pub unlawful_checked : (scheme : List (List ℕ × Basic)) (e : Expr) (refused : TypeFault) (node : ℕ) (c : TypeCause) → scheme ≡ []
     → refused ≡ fault.Bad node c → Answers (findings_of scheme place.Filter e) (Err refused) → IsUnlawful e
 unlawful_checked scheme e refused node c none is answers =
-    let first : Fault = record { node = node; cause = c } in
-    (first, subst (λ lists. IsCheckAnswer (findings_of lists place.Filter e) (Some first)) none
-      (subst (λ f. Answers (findings_of scheme place.Filter e) (Err f)) is answers))
+    let first : Fault = record { node = node; cause = c } in (
+      first,
+      subst (λ lists. IsCheckAnswer (findings_of lists place.Filter e) (Some first)) none
+          (subst (λ f. Answers (findings_of scheme place.Filter e) (Err f)) is answers),
+    )
 
 pub condition_read : (text : List ℕ) (tree other : Expr) → IsTree text tree → IsLawful tree → other ≡ tree → IsCondition text other
 condition_read text tree other is lawful same = (subst (IsTree text) (sym same) is, subst IsLawful (sym same) lawful)

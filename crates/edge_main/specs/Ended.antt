@@ -1,5 +1,5 @@
 -- What the top call promises where it ended with a status: of what was written, and of what was taken.
-use Rattle.std.specs.Prelude.{◌≡◌, ℕ, ◌<◌, ◌^◌, ◌↔◌, ◌⊎◌, Bool, true, false, List, [], ◌++◌, length, Option, Some}
+use Rattle.std.specs.Prelude.{◌≡◌, ◌≢◌, ℕ, ◌<◌, ◌^◌, ◌↔◌, ◌⊎◌, Bool, true, false, List, [], ◌++◌, length, Option, Some}
 use Rattle.std.specs.Io.KnownBytes.{Appends, Consumes}
 use Rattle.edge_outside.specs.Faults.{Rose}
 use Rattle.edge_outside.specs.Lines.{lines_of, NoNewline}
@@ -78,9 +78,10 @@ AnswersWhole left faults got ended input input' before after =
     ¬ (Rose (faults before) (faults after)) → (text : List ℕ) → left input ≡ Some text
     → WroteWhole ended text (left input') (got before) (got after)
 
--- where no read and no write failed and the input had fewer than 2^40 bytes, it was judged whole, or memory was refused
+-- where the words are a command, no read and no write failed and the input had fewer than 2^40 bytes, it was judged whole,
+-- or memory was refused
 abbrev pub IsComplete : {I O : Type 0} → (I → ℕ) → (I → Option (List ℕ)) → (O → ℕ) → Status → I → I → O → O → Type 0
 IsComplete reads left writes ended input input' before after =
-    ¬ (Rose (reads input) (reads input')) → ¬ (Rose (writes before) (writes after))
+    ended ≢ status.Usage → ¬ (Rose (reads input) (reads input')) → ¬ (Rose (writes before) (writes after))
     → (text rest : List ℕ) → left input ≡ Some text → left input' ≡ Some rest → length text < 2 ^ 40
     → IsJudged ended ⊎ (ended ≡ status.Memory)

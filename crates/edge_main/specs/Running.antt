@@ -112,10 +112,10 @@ abbrev pub TakesLong : Replay → Replay → Type 0
 TakesLong replay replay' = (given : List ℕ) → 2 ^ 20 < length given → TakesLine replay given replay'
 
 -- what a turn makes of the answers so far
-abbrev pub Turns : Result Turn RunFault → Replay → Replay → (left left' got got' : Option (List ℕ)) → Type 0
-Turns turn replay replay' left left' got got' = (before : Option (List ℕ)) (text : List ℕ)
-    → Progress replay.run replay.reader left before got replay.pending text
-    → TurnOf turn replay'.run replay'.reader left' before got' replay'.pending text
+abbrev pub Turns : {I O : Type 0} → (I → Option (List ℕ)) → (O → Option (List ℕ)) → Result Turn RunFault → Replay → Replay → I → I → O → O → Type 0
+Turns left got turn replay replay' input input' out out' = (before : Option (List ℕ)) (text : List ℕ)
+    → Progress replay.run replay.reader (left input) before (got out) replay.pending text
+    → TurnOf turn replay'.run replay'.reader (left input') before (got out') replay'.pending text
 
 -- a turn that writes nothing
 abbrev pub TurnsWithin : Result Turn RunFault → Replay → Replay → (left left' : Option (List ℕ)) → Type 0

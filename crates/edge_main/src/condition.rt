@@ -1,9 +1,8 @@
 ghost use Rattle.std.specs.Prelude.{◌≡◌, [], IfOk, IfSome, MatchOption};
 ghost use Rattle.serde_json.specs.View.{view};
 ghost use Rattle.edge_fields.specs.Schemes.{AreLists};
-ghost use Rattle.type_check.specs.Trees.{tree_of};
-ghost use Rattle.edge_main.specs.InForce.{IsTree, IsNoTree, IsLawful, IsUnlawful, IsCondition, IsNoCondition, IsRule, IsTaken, IsNotTaken};
-ghost use Rattle.edge_main.specs.Written.{written, rule_kept, kept};
+ghost use Rattle.edge_main.specs.InForce.{IsTree, IsNoTree};
+ghost use Rattle.edge_main.specs.Written.{written, IsFilterFound, IsConditionFound, IsRuleFound, IsDeploymentFound};
 
 use crate::deployment::{RuleText, deployment_of};
 use crate::rule::{BlockRule, Deployed};
@@ -41,7 +40,7 @@ fn scheme_of_none(alloc: Global) -> Result<Scheme, Memory>
 
 /// A tree as it is evaluated, where it is a lawful filter.
 fn filter_of(alloc: Global, tree: &Expr) -> Result<Option<Typed>, Memory>
-    ensures filter { IfOk result (λ found. MatchOption found (IsUnlawful tree.now) (λ typed. IsLawful tree.now × (tree_of typed.root ≡ tree.now))) }
+    ensures filter { IfOk result (IsFilterFound tree.now) }
     ensures unlisted { IfOk result (λ found. IfSome found (λ typed. typed.lists ≡ [])) }
 {
     let scheme = scheme_of_none(alloc)?;
@@ -55,7 +54,7 @@ fn filter_of(alloc: Global, tree: &Expr) -> Result<Option<Typed>, Memory>
 /// The condition that a text is.
 #[tactic(auto, using(crate::proofs::InForceLemmas::condition_read))]
 fn condition_of(alloc: Global, text: &[u8]) -> Result<Option<Typed>, Memory>
-    ensures condition { IfOk result (λ found. MatchOption found (IsNoCondition text.now) (λ typed. IsCondition text.now (tree_of typed.root))) }
+    ensures condition { IfOk result (IsConditionFound text.now) }
     ensures unlisted { IfOk result (λ found. IfSome found (λ typed. typed.lists ≡ [])) }
 {
     match read_tree(alloc, text)? {
@@ -69,7 +68,7 @@ fn condition_of(alloc: Global, text: &[u8]) -> Result<Option<Typed>, Memory>
 
 /// The rule that a deployment writes, where its text is a condition.
 fn rule_of(alloc: Global, rule: RuleText<'_>) -> Result<Option<BlockRule>, Memory>
-    ensures { IfOk result (λ found. MatchOption found (IsNoCondition (written rule.entry).expression) (λ block. IsRule (written rule.entry) (rule_kept block))) }
+    ensures { IfOk result (IsRuleFound (written rule.entry)) }
 {
     let name = RuleName {
         set_id: Text::of(alloc, rule.set_id)?,
@@ -82,13 +81,9 @@ fn rule_of(alloc: Global, rule: RuleText<'_>) -> Result<Option<BlockRule>, Memor
 }
 
 /// What a deployment puts in force, where it is taken.
-#[tactic(auto, using(
-    crate::proofs::InForceLemmas::taken_empty,
-    crate::proofs::InForceLemmas::not_taken_form,
-    crate::proofs::InForceLemmas::not_taken_rule,
-))]
+#[tactic(auto, using(crate::proofs::InForceLemmas::taken_empty, crate::proofs::InForceLemmas::not_taken_form, crate::proofs::InForceLemmas::not_taken_rule,))]
 pub fn deployed_by(alloc: Global, value: &Value) -> Result<Option<Deployed>, Memory>
-    ensures { IfOk result (λ found. MatchOption found (IsNotTaken (view value.now)) (λ deployed. IsTaken (view value.now) (kept deployed))) }
+    ensures { IfOk result (IsDeploymentFound (view value.now)) }
 {
     match deployment_of(value) {
         None => Ok(None),

@@ -6,8 +6,8 @@ use crate::rule::{BlockRule, Deployed};
 use edge_base::{Memory, Request, RuleNames, Text};
 use list_store::Lists;
 use std::alloc::Global;
-use tree_eval::is_met;
 use trace_form::{Response, Verdict, VerdictKind};
+use tree_eval::is_met;
 
 /// The status, the text and its type with which a rule blocks that says nothing of them.
 const BLOCK_STATUS: u16 = 403;

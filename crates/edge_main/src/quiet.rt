@@ -40,7 +40,7 @@ pub fn edge_quiet<S: Source, K: Sink, E: Sink>(
     ensures never { (result ≢ Status.AcceptFault) × (result ≢ Status.Spent) }
     ensures took { TookInput (S.left input.old) (S.left input.new) (S.taken input.old) (S.taken input.new) result }
     ensures said { Says E.faults E.got said.old said.new (said_of result) }
-    ensures complete { result ≢ Status.Usage → IsComplete S.faults S.left K.faults result input.old input.new out.old out.new }
+    ensures complete { IsComplete S.faults S.left K.faults result input.old input.new out.old out.new }
 {
     if !is_replay(words) {
         tell(Status::Usage, said);

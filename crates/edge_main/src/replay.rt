@@ -149,7 +149,7 @@ impl Replay {
         out: &mut K,
     ) -> Result<Turn, RunFault>
         requires { self.old.run.lines + weight self.old.reader ≤ 2 ^ 40 }
-        ensures turn { Turns result self.old self.new (S.left input.old) (S.left input.new) (K.got out.old) (K.got out.new) }
+        ensures turn { Turns S.left K.got result self.old self.new input.old input.new out.old out.new }
         ensures falls { result ≡ Ok Turn.Next → weight self.new.reader < weight self.old.reader }
         ensures room { result ≡ Ok Turn.Next → self.new.run.lines + weight self.new.reader ≤ 2 ^ 40 }
         ensures read { result ≡ Err RunFault.Read → Rose (S.faults input.old) (S.faults input.new) }

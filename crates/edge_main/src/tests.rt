@@ -25,7 +25,8 @@ const WITH_BAD: &str =
     "{\"at\":0,\"ip\":\"10.0.0.1\",\"method\":\"GET\",\"target\":\"/\",\"headers\":[[\"host\",\"a.example\"]]}\n{x\n{\"at\":1,\"ip\":\"10.0.0.1\",\"method\":\"GET\",\"target\":\"/\",\"headers\":[[\"host\",\"a.example\"]]}";
 
 /// A rule with several tests, and requests that it blocks and passes; then texts that are no condition.
-const CONDITIONS: &str = r#"{"deploy":{"rulesets":[{"id":"fw","kind":"zone","phase":"http_request_firewall_custom","rules":[{"id":"r2","expression":"not ip.src in {10.0.0.0/8 ::/0} and (ssl or any(lower(http.request.headers.names[*])[*] contains \"x-\")) or http.request.version eq \"HTTP/1.0\"","action":"block"}]}]}}
+const CONDITIONS: &str =
+    r#"{"deploy":{"rulesets":[{"id":"fw","kind":"zone","phase":"http_request_firewall_custom","rules":[{"id":"r2","expression":"not ip.src in {10.0.0.0/8 ::/0} and (ssl or any(lower(http.request.headers.names[*])[*] contains \"x-\")) or http.request.version eq \"HTTP/1.0\"","action":"block"}]}]}}
 {"at":0,"ip":"10.0.0.1","method":"GET","target":"/a","headers":[],"ssl":true}
 {"at":0,"ip":"11.0.0.1","method":"GET","target":"/b","headers":[],"ssl":true}
 {"at":0,"ip":"::1","method":"GET","target":"/c","headers":[["X-A","1"]]}
@@ -38,7 +39,8 @@ const CONDITIONS: &str = r#"{"deploy":{"rulesets":[{"id":"fw","kind":"zone","pha
 {"at":0,"ip":"::1","method":"GET","target":"/e","headers":[],"version":"HTTP/1.0"}
 "#;
 
-const JUDGED: &str = "deploy v1\n1 v1 pass - /a -\n2 v1 block:403 fw/r2 /b -\n3 v1 pass - /c -\n4 v1 block:403 fw/r2 /d -\n5 v1 block:403 fw/r2 /e -\nbad 7 Unsupported\nbad 8 Unsupported\nbad 9 Unsupported\nbad 10 Unsupported\n6 v1 block:403 fw/r2 /e -\n";
+const JUDGED: &str =
+    "deploy v1\n1 v1 pass - /a -\n2 v1 block:403 fw/r2 /b -\n3 v1 pass - /c -\n4 v1 block:403 fw/r2 /d -\n5 v1 block:403 fw/r2 /e -\nbad 7 Unsupported\nbad 8 Unsupported\nbad 9 Unsupported\nbad 10 Unsupported\n6 v1 block:403 fw/r2 /e -\n";
 
 /// What a run came to.
 #[derive(Debug, Drop)]

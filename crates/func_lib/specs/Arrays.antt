@@ -88,8 +88,8 @@ abbrev pub after_separators : List ℕ → List (List ℕ) → List ℕ
 after_separators separator parts = flat_map (λ part. separator ++ part) parts
 
 -- bytes with values behind them, each after a separator, if all are texts
-abbrev pub with_texts_after : List ℕ → List ℕ → List Value → Option (List ℕ)
-with_texts_after bytes separator values =
+abbrev pub parts_behind : List ℕ → List ℕ → List Value → Option (List ℕ)
+parts_behind bytes separator values =
     option_map (λ parts. bytes ++ after_separators separator parts) (all_of text_in values)
 
 -- texts with a separator between each two

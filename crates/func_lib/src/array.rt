@@ -6,7 +6,7 @@ ghost use Rattle.edge_fields.specs.declared.value.Value.TheVariants as value;
 ghost use Rattle.edge_fields.specs.Values.{text_in, truth_in};
 ghost use Rattle.func_lib.specs.Arguments.{all_of};
 ghost use Rattle.func_lib.specs.Arrays.{any_of, every_of, size_of, len_of, has_key_of, has_text, has_number, has_value_of};
-ghost use Rattle.func_lib.specs.Arrays.{IsFirstCut, pieces_between, split_of, with_texts_after, joined, array_and_text, join_of};
+ghost use Rattle.func_lib.specs.Arrays.{IsFirstCut, pieces_between, split_of, parts_behind, joined, array_and_text, join_of};
 
 use crate::arguments::{only_of, pair_of, two_texts};
 use edge_base::{Memory, Text, TextBuilder};
@@ -162,7 +162,7 @@ fn push_after(
     separator: &[u8],
     values: &[Value],
 ) -> Result<Option<()>, Memory>
-    ensures { IfOk result (λ found. option_map (λ _. text.new) found ≡ with_texts_after text.old separator.now values.now) }
+    ensures { IfOk result (λ found. option_map (λ _. text.new) found ≡ parts_behind text.old separator.now values.now) }
 {
     for value in values {
         let Some(part) = value.as_text() else {

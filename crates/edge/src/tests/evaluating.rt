@@ -16,7 +16,8 @@ use type_check::{Place, Typed, check};
 /// Rows of a text, what differs in the request, and the value of the text on it. Two blanks stand between. Where nothing
 /// differs, a GET of `/` by HTTP/1.1 came at 0 from 10.0.0.1 without TLS, with the one header `host:a.example`. A text
 /// that is asked of a reply is a filter of replies.
-pub(super) const ROWS: &str = r##"http.host eq "b" or ssl and http.request.method eq "PUT"  ssl=yes headers=host:b  true
+pub(super) const ROWS: &str =
+    r##"http.host eq "b" or ssl and http.request.method eq "PUT"  ssl=yes headers=host:b  true
 not ssl and http.host eq "a" or http.host eq "b"  ssl=yes headers=host:b  true
 http.host eq "a" xor ssl and http.request.method eq "PUT"  ssl=yes headers=host:a  true
 http.request.headers["x"][0] ne "a"  -  false

@@ -7,7 +7,8 @@ use edge_outside::{Numbers, TextSink, TextSource};
 use std::process::Abort;
 use std::test::Fail;
 
-const BEFORE_EXPRESSION: &[u8] = b"{\"deploy\":{\"rulesets\":[{\"id\":\"fw\",\"kind\":\"zone\",\"phase\":\"http_request_firewall_custom\",\"rules\":[{\"id\":\"r1\",\"action\":\"block\",\"expression\":";
+const BEFORE_EXPRESSION: &[u8] =
+    b"{\"deploy\":{\"rulesets\":[{\"id\":\"fw\",\"kind\":\"zone\",\"phase\":\"http_request_firewall_custom\",\"rules\":[{\"id\":\"r1\",\"action\":\"block\",\"expression\":";
 
 /// A text as JSON writes it.
 fn push_quoted(out: &mut TextBuilder, text: &str) -> Result<(), Memory> {
