@@ -23,7 +23,7 @@ use Rattle.rate_plain.specs.declared.entry.Answer.{Answer}
 use Rattle.rate_plain.specs.declared.entry.Answer.TheVariants.{Pass, Over, Full}
 use Rattle.rate_lane.specs.KeyState.{IsStateOf, answer_within, entry_at}
 use Rattle.rate_lane.specs.Index.{Entries, state_of, live_at, IsKept, KeepsAll}
-use Rattle.rate_lane.specs.Stepping.{AreLive, with_step, StepsState, AddsState, StepsAll}
+use Rattle.rate_lane.specs.Stepping.{AreLive, with_step, AddsState, StepsAll}
 use Rattle.rate_lane.specs.declared.key_state.KeyState.{KeyState}
 use Rattle.rate_lane.proofs.KeyStateLemmas.{is_live_push, fresh_state}
 
@@ -55,7 +55,7 @@ other_kept kept q at history entry other was = by kept was
     }
 
 -- a step of a key that leaves this state leaves the others' as they were
-all_stepped : (before after : Entries) (key : KeyParts) (state : KeyState) (at : ℕ) (history : List Entry) (entry : Entry) → entry.key ≡ key →
+pub all_stepped : (before after : Entries) (key : KeyParts) (state : KeyState) (at : ℕ) (history : List Entry) (entry : Entry) → entry.key ≡ key →
     ((q : KeyParts) → state_of after q ≡ cond (same_key key q) (Some state) (state_of before q)) → KeepsAll before at history → IsStateOf state key at (history ++ entry ∷ []) → KeepsAll after at (history ++ entry ∷ [])
 all_stepped before after key state at history entry own changed was its q =
     subst (λ s. IsKept s q at (history ++ entry ∷ [])) (sym (changed q)) (by (same_key key q) refl)
@@ -105,7 +105,7 @@ live_are_kept entries at lane history only unique live was =
         ∙ sym (live_in_lane 1 lane at history q ∙ ap (λ b. b && is_made_live q at history) (eq-eqb (lane_of_key 1 q) lane (only_lane q ∙ sym only)))
 
 -- a live key isn't shut out
-answer_live : (cap : ℕ) (history : List Entry) (ask : Ask) (at : ℕ) → is_live ask.key at history ≡ true → answer_at 1 cap history ask at ≡ answer_within history ask.key ask.adds at
+pub answer_live : (cap : ℕ) (history : List Entry) (ask : Ask) (at : ℕ) → is_live ask.key at history ≡ true → answer_at 1 cap history ask at ≡ answer_within history ask.key ask.adds at
 answer_live cap history ask at live =
     λ i. held_or (held_until ask.key at history)
     (cond (not ask.adds) Pass
@@ -153,33 +153,10 @@ add_changed before after key new absent written q = ap (λ es. state_of es q) wr
             let there : same_key key e.0 ≡ true = ap (λ k. same_key k e.0) ((same_key-Decides key q).0 s) ∙ m in
             absurd (true≢false (ap is_some (sym (ap (λ d. cond d (Some e.1) (state_of es key)) there) ∙ none)))
 
--- a step of a key that is kept
-pub kept_steps : (before after : Entries) (cap : ℕ) (ask : Ask) (at : ℕ) (answer : Answer) → StepsState before after ask at answer → StepsAll before after cap ask at answer
-kept_steps before after cap ask at answer stepped history was ready live = (told, goes)
-  where
-    its : IsStateOf stepped.old ask.key at history
-    its = subst (λ s. IsKept s ask.key at history) stepped.found (was ask.key)
-
-    taken : (answer ≡ answer_within history ask.key ask.adds at) × ((caller asked : ℕ) → IsStateOf stepped.new ask.key at (history ++ entry_at caller asked ask.key at ask.adds answer ∷ []))
-    taken = stepped.steps history its (ready stepped.old stepped.found)
-
-    lives : is_live ask.key at history ≡ true
-    lives = its.live at (omega arith) ∙ on (nat_lt at stepped.old.live_until) (sym (ap (live_at at) stepped.found) ∙ live ask.key ∙ stepped.found)
-      where
-        on : (b : Bool) → cond b (Some stepped.old) None ≡ Some stepped.old → b ≡ true
-        on true e = refl
-        on false e = absurd (true≢false (ap is_some (sym e)))
-
-    told : answer ≡ answer_at 1 cap history ask at
-    told = taken.0 ∙ sym (answer_live cap history ask at lives)
-
-    goes : (caller : ℕ) → KeepsAll after at (with_step history caller ask at answer)
-    goes caller = all_stepped before after ask.key stepped.new at history (entry_at caller ask.asked ask.key at ask.adds answer) refl (set_changed before after ask.key stepped.old stepped.new stepped.found stepped.entries) was (taken.1 caller ask.asked)
-
 -- the first step of a key that has room
 pub added_steps : (before after : Entries) (cap : ℕ) (ask : Ask) (at : ℕ) (answer : Answer) → 1 ≤ ask.key.threshold → IsDistinct same_key (keys_of before) → state_of before ask.key ≡ None → ask.adds ≡ true → length before < cap →
     AddsState before after ask.key at answer → StepsAll before after cap ask at answer
-added_steps before after cap ask at answer some unique absent adds room added history was ready live = (told, goes)
+added_steps before after cap ask at answer some unique absent adds room added history was live = (told, goes)
   where
     dead : (later : ℕ) → at ≤ later → is_live ask.key later history ≡ false
     dead = subst (λ s. IsKept s ask.key at history) absent (was ask.key)
@@ -202,7 +179,7 @@ added_steps before after cap ask at answer some unique absent adds room added hi
 
 -- a step of a dead key that finds no room
 pub full_steps : (before after : Entries) (cap : ℕ) (ask : Ask) (at : ℕ) → after ≡ before → IsDistinct same_key (keys_of before) → state_of before ask.key ≡ None → ask.adds ≡ true → cap ≤ length before → StepsAll before after cap ask at Full
-full_steps before after cap ask at unchanged unique absent adds full history was ready live = (told, goes)
+full_steps before after cap ask at unchanged unique absent adds full history was live = (told, goes)
   where
     dead : is_live ask.key at history ≡ false
     dead = (subst (λ s. IsKept s ask.key at history) absent (was ask.key)) at (omega arith)
@@ -221,12 +198,9 @@ full_steps before after cap ask at unchanged unique absent adds full history was
     goes caller = subst (λ es. KeepsAll es at (with_step history caller ask at Full)) (sym unchanged) (all_dead before at history (entry_at caller ask.asked ask.key at ask.adds Full) absent (λ later. none later ask.adds) was)
 
 -- a step of a dead key that doesn't add
-pub pass_steps : (before after : Entries) (cap : ℕ) (ask : Ask) (at : ℕ) → after ≡ before → state_of before ask.key ≡ None → (ask.adds ≡ true → is_some (live_at at (state_of before ask.key)) ≡ true) → StepsAll before after cap ask at Pass
-pass_steps before after cap ask at unchanged absent hand history was ready live = (told, goes)
+pub pass_steps : (before after : Entries) (cap : ℕ) (ask : Ask) (at : ℕ) → after ≡ before → state_of before ask.key ≡ None → ask.adds ≡ false → StepsAll before after cap ask at Pass
+pass_steps before after cap ask at unchanged absent looks history was live = (told, goes)
   where
-    looks : ask.adds ≡ false
-    looks = false_from_ne_true ask.adds (λ a. true≢false (sym (hand a) ∙ ap (λ s. is_some (live_at at s)) absent))
-
     dead : is_live ask.key at history ≡ false
     dead = (subst (λ s. IsKept s ask.key at history) absent (was ask.key)) at (omega arith)
 

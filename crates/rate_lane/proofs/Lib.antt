@@ -4,7 +4,7 @@ pub mod IndexLemmas
 pub mod KeyEqLemmas
 pub mod SteppingLemmas
 pub mod LaneLemmas
-pub mod PreparedLemmas
+pub mod SweptLemmas
 pub mod LaneStepLemmas
 pub mod LiveKeysLemmas
 pub mod LanesLemmas

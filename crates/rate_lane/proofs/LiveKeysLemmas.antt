@@ -13,7 +13,7 @@ use Rattle.rate_plain.specs.declared.entry.Entry.{Entry}
 use Rattle.rate_lane.specs.Index.{Entries, state_of, live_at, live_among, IsKept, KeepsAll}
 use Rattle.rate_lane.specs.declared.key_state.KeyState.{KeyState}
 use Rattle.rate_lane.proofs.LaneLemmas.{live_are_kept}
-use Rattle.rate_lane.proofs.PreparedLemmas.{live_is_kept, live_twice}
+use Rattle.rate_lane.proofs.SweptLemmas.{live_is_kept, live_twice}
 use Rattle.rate_lane.proofs.LaneStepLemmas.{keeps_later, latest_is}
 
 -- the live ones of the keys

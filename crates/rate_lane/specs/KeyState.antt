@@ -4,6 +4,7 @@ use Rattle.circular_buffer.specs.Buffer.{buffer}
 use Rattle.rate_plain.specs.KeyParts.{KeyParts}
 use Rattle.rate_plain.specs.Window.{counted_of, held_until, is_live, held_or}
 use Rattle.rate_plain.specs.LiveSteps.{end_above}
+use Rattle.rate_plain.specs.declared.entry.Ask.{Ask}
 use Rattle.rate_plain.specs.declared.entry.Entry.{Entry}
 use Rattle.rate_plain.specs.declared.entry.Answer.{Answer}
 use Rattle.rate_plain.specs.declared.entry.Answer.TheVariants.{Pass, Over}
@@ -50,6 +51,10 @@ with_room threshold state = record {
   live_until = state.live_until;
   moments = buffer state.moments.items (places_of threshold state);
 }
+
+-- the state in which a step finds its key: the ring has room where the step adds
+abbrev pub roomed : Ask → KeyState → KeyState
+roomed ask state = cond ask.adds (with_room ask.key.threshold state) state
 
 -- the state tells, from this moment on, what the steps of the key tell; its moments ascend, and no more fit than the threshold
 pub record IsStateOf (state : KeyState) (key : KeyParts) (at : ℕ) (history : List Entry) : Type 0 where

@@ -1,9 +1,9 @@
-ghost use Rattle.std.specs.Prelude.{◌≡◌, ◌≤◌, true, IfOk, IsOk, OnOk, OnErr};
-ghost use Rattle.rate_lane.specs.KeyState.{dead_state, is_oldest_over, Forgets, has_room, with_room, StepsKey};
+ghost use Rattle.std.specs.Prelude.{◌≡◌, ◌≤◌, false, not, ◌&&◌, IfOk, IsOk, OnOk, OnErr};
+ghost use Rattle.rate_lane.specs.KeyState.{dead_state, is_oldest_over, Forgets, has_room, roomed, StepsKey};
 
 use circular_buffer::HeapCircularBuffer;
 use edge_base::{Memory, Moment};
-use rate_plain::{Answer, Key};
+use rate_plain::{Answer, Ask, Key};
 use std::alloc::Global;
 
 /// What a lane keeps of a key.
@@ -66,15 +66,15 @@ impl KeyState {
         !self.moments.is_full()
     }
 
-    /// Grows the ring where it is full: to twice its places or the threshold, whichever is less.
-    pub fn make_room(&mut self, key: &Key) -> Result<(), Memory>
-        ensures ok { OnOk result (self.new ≡ with_room key.now.threshold self.old) }
+    /// Grows the ring where it is full and the step adds: to twice its places or the threshold, whichever is less.
+    fn make_room(&mut self, ask: &Ask) -> Result<(), Memory>
+        ensures ok { OnOk result (self.new ≡ roomed ask.now self.old) }
         ensures err { OnErr result (self.new ≡ self.old) }
-        ensures no_memory { has_room self.old ≡ true → IsOk result }
+        ensures no_memory { (ask.now.adds && not (has_room self.old)) ≡ false → IsOk result }
     {
         let places = self.moments.capacity();
-        let threshold = key.threshold as usize;
-        if self.moments.is_full() && places < threshold {
+        let threshold = ask.key.threshold as usize;
+        if ask.adds && self.moments.is_full() && places < threshold {
             self.moments.resize(threshold.min(2 * places))?;
         }
         Ok(())
@@ -105,5 +105,17 @@ impl KeyState {
         self.moments.push_back(at);
         self.live_until = self.live_until.max(now + key.period);
         Answer::Pass
+    }
+
+    /// Makes room for a step of the key, answers it and counts it.
+    pub fn take(&mut self, ask: &Ask, at: Moment) -> Result<Answer, Memory>
+        ensures steps { IfOk result (StepsKey (roomed ask.now self.old) self.new ask.now.key ask.now.adds at) }
+        ensures places { OnOk result (self.new.moments.capacity ≡ (roomed ask.now self.old).moments.capacity) }
+        ensures longer { OnOk result (self.old.live_until ≤ self.new.live_until) }
+        ensures err { OnErr result (self.new ≡ self.old) }
+        ensures no_memory { (ask.now.adds && not (has_room self.old)) ≡ false → IsOk result }
+    {
+        self.make_room(ask)?;
+        Ok(self.step(&ask.key, ask.adds, at))
     }
 }

@@ -1,8 +1,8 @@
-ghost use Rattle.std.specs.Prelude.{◌≡◌, ◌+◌, ◌<◌, ◌≤◌, false, length, None, is_some, IfOk, IsOk, OnOk, OnErr, IfSome, IfNone};
+ghost use Rattle.std.specs.Prelude.{◌≡◌, ◌+◌, ◌<◌, ◌≤◌, false, length, None, IfOk, IsOk, OnOk, OnErr, IfSome, IfNone};
 ghost use Rattle.indexmap.specs.IndexMap.{spare, IsUnchanged};
 ghost use Rattle.rate_lane.specs.KeyState.{dead_state};
 ghost use Rattle.rate_lane.specs.Index.{state_of, IsOrdered, live_at};
-ghost use Rattle.rate_lane.specs.Stepping.{is_full, roomy_of, prepared_of, needs_memory, IsAtHand, StepsState, AddsState, StepsAll, TakesStep, KeepsRings, GrowsRings};
+ghost use Rattle.rate_lane.specs.Stepping.{needs_memory, StepsLive, AddsState, TakesStep, GrowsRings};
 
 use crate::index::{Index, sweep};
 use crate::key_state::KeyState;
@@ -14,22 +14,22 @@ use std::alloc::Global;
 /// A key that may be added, with its state.
 pub type Fresh = (Key, KeyState);
 
-/// Makes room in the ring of a key that is live, and says whether it is.
-fn make_room(index: &mut Index, key: &Key, at: Moment) -> Result<bool, Memory>
-    ensures live { IfOk result (λ live. live ≡ is_some (live_at at (state_of index.old.entries key.now))) }
-    ensures entries { OnOk result (index.new.entries ≡ roomy_of key.now at index.old.entries) }
+/// Takes a step of a key that is live. The key is looked up once.
+fn step_live(index: &mut Index, ask: &Ask, at: Moment) -> Result<Option<Answer>, Memory>
+    ensures live { IfOk result (λ told. IfSome told (StepsLive index.old.entries index.new.entries ask.now at)) }
+    ensures dead { IfOk result (λ told. IfNone told (live_at at (state_of index.old.entries ask.now.key) ≡ None)) }
+    ensures unchanged { IfOk result (λ told. IfNone told (IsUnchanged index.old index.new)) }
     ensures err { OnErr result (IsUnchanged index.old index.new) }
-    ensures no_memory { is_full (live_at at (state_of index.old.entries key.now)) ≡ false → IsOk result }
-    ensures spare { spare index.new ≡ spare index.old }
+    ensures no_memory { needs_memory index.old.entries ask.now at ≡ false → IsOk result }
 {
-    let Some(state) = index.get_mut(key) else {
-        return Ok(false);
+    let Some(state) = index.get_mut(&ask.key) else {
+        return Ok(None);
     };
     if state.live_until() <= at.get() {
-        return Ok(false);
+        return Ok(None);
     }
-    state.make_room(key)?;
-    Ok(true)
+    let answer = state.take(ask, at)?;
+    Ok(Some(answer))
 }
 
 /// A copy of a key with an empty ring, and a place for it.
@@ -43,37 +43,6 @@ fn fresh(index: &mut Index, alloc: Global, key: &Key) -> Result<Fresh, Memory>
     let state = KeyState::new(alloc, key)?;
     index.reserve(1)?;
     Ok((copy, state))
-}
-
-/// Takes all the memory that a step may need: where it adds, the growth of its key's ring, or a copy of a key that is
-/// dead with a ring and a place for it.
-pub fn prepare(
-    index: &mut Index,
-    alloc: Global,
-    ask: &Ask,
-    at: Moment,
-) -> Result<Option<Fresh>, Memory>
-    ensures ok { IfOk result (IsAtHand index.old.entries (spare index.new) ask.now at) }
-    ensures entries { OnOk result (index.new.entries ≡ prepared_of ask.now at index.old.entries) }
-    ensures err { OnErr result (IsUnchanged index.old index.new) }
-    ensures no_memory { needs_memory index.old.entries ask.now at ≡ false → IsOk result }
-{
-    if !ask.adds || make_room(index, &ask.key, at)? {
-        return Ok(None);
-    }
-    let fresh = fresh(index, alloc, &ask.key)?;
-    Ok(Some(fresh))
-}
-
-/// Answers a step of a key that is kept, if it is.
-fn step_kept(index: &mut Index, ask: &Ask, at: Moment) -> Option<Answer>
-    ensures kept { IfSome result (StepsState index.old.entries index.new.entries ask.now at) }
-    ensures absent { IfNone result (state_of index.old.entries ask.now.key ≡ None) }
-    ensures unchanged { IfNone result (IsUnchanged index.old index.new) }
-    ensures spare { spare index.new ≡ spare index.old }
-{
-    let state = index.get_mut(&ask.key)?;
-    Some(state.step(&ask.key, ask.adds, at))
 }
 
 /// Adds a key, and answers its first step.
@@ -96,34 +65,36 @@ fn add(index: &mut Index, order: &mut Order, fresh: Fresh, at: Moment) -> Answer
     answer
 }
 
-/// Answers a step. Takes no memory.
-pub fn answer(
+/// Takes a step of a key that isn't live: first the memory for it, where it adds, then out what is dead, and then the answer.
+fn step_dead(
     index: &mut Index,
     order: &mut Order,
+    alloc: Global,
     ask: &Ask,
     at: Moment,
-    fresh: Option<Fresh>,
-) -> Answer
+) -> Result<Answer, Memory>
     requires ordered { IsOrdered index.old.entries order.old }
-    requires at_hand { IsAtHand index.old.entries (spare index.old) ask.now at fresh }
-    ensures steps { StepsAll index.old.entries index.new.entries (length order.old) ask.now at result }
-    ensures rings { KeepsRings index.old.entries index.new.entries }
+    requires dead { live_at at (state_of index.old.entries ask.now.key) ≡ None }
     ensures ordered { IsOrdered index.new.entries order.new }
     ensures places { length order.new ≡ length order.old }
+    ensures ok { IfOk result (TakesStep index.old.entries index.new.entries (length order.old) ask.now at) }
+    ensures rings { OnOk result (GrowsRings index.old.entries index.new.entries ask.now at) }
+    ensures err { OnErr result ((index.new.entries ≡ index.old.entries) × (order.new ≡ order.old)) }
+    ensures no_memory { ask.now.adds ≡ false → IsOk result }
 {
-    if let Some(answer) = step_kept(index, ask, at) {
-        return answer;
+    if !ask.adds {
+        sweep(index, order, at);
+        return Ok(Answer::Pass);
     }
-    let Some(fresh) = fresh else {
-        return Answer::Pass;
-    };
+    let fresh = fresh(index, alloc, &ask.key)?;
+    sweep(index, order, at);
     if index.len() >= order.places() {
-        return Answer::Full;
+        return Ok(Answer::Full);
     }
-    add(index, order, fresh, at)
+    Ok(add(index, order, fresh, at))
 }
 
-/// Takes a step at its moment: first all the memory that it may need, then out what is dead, and then the answer.
+/// Takes a step at its moment. All the memory that it may need is taken before anything changes, and what is dead goes out.
 pub fn take_step(
     index: &mut Index,
     order: &mut Order,
@@ -139,7 +110,9 @@ pub fn take_step(
     ensures err { OnErr result ((index.new.entries ≡ index.old.entries) × (order.new ≡ order.old)) }
     ensures no_memory { needs_memory index.old.entries ask.now at ≡ false → IsOk result }
 {
-    let fresh = prepare(index, alloc, ask, at)?;
+    let Some(answer) = step_live(index, ask, at)? else {
+        return step_dead(index, order, alloc, ask, at);
+    };
     sweep(index, order, at);
-    Ok(answer(index, order, ask, at, fresh))
+    Ok(answer)
 }
