@@ -1,0 +1,6 @@
+pub mod Seats
+pub mod Counting
+pub mod Kept
+pub mod Stepped
+pub mod SeenLemmas
+pub mod MakingLemmas

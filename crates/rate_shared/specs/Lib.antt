@@ -1,0 +1,5 @@
+pub mod Rule
+pub mod Steps
+pub mod Hands
+pub mod Promise
+pub mod Callers
