@@ -1,4 +1,17 @@
-//! A table of texts, requests and values.
+//! Expressions as they are evaluated: a table of texts, requests and values.
+ghost use Rattle.std.specs.Prelude.{◌≡◌, ◌≤◌, [], IfOk};
+ghost use Rattle.edge_fields.specs.Schemes.{AreLists};
+
+use edge_base::{Addr, Expr, Header, Headers, Memory, Moment, Reply, Request, Text, parse_addr};
+use edge_fields::{ListKinds, Scheme, Value};
+use expr_parser::parse;
+use list_store::{ListParts, Lists};
+use sqlite_items::Items;
+use std::alloc::Global;
+use std::process::Abort;
+use std::test::Fail;
+use tree_eval::{eval, is_met};
+use type_check::{Place, TypeFault, Typed, check};
 
 /// Rows of a text, what differs in the request, and the value of the text on it. Two blanks stand between. Where nothing
 /// differs, a GET of `/` by HTTP/1.1 came at 0 from 10.0.0.1 without TLS, with the one header `host:a.example`. A text
@@ -102,4 +115,239 @@ pub(super) fn is_said(words: &str, name: &str, wanted: &str) -> bool {
         None => false,
         Some(value) => value == wanted,
     }
+}
+
+/// The header that `NAME:VALUE` stands for, if it is one.
+fn header_of(alloc: Global, text: &str) -> Result<Option<Header>, Memory> {
+    match text.split_once(":") {
+        None => Ok(None),
+        Some((name, value)) => Ok(Some(Header {
+            name: Text::of(alloc, name.as_bytes())?,
+            value: Text::of(alloc, value.as_bytes())?,
+        })),
+    }
+}
+
+/// The headers that stand in a text, with commas between.
+fn headers_of(alloc: Global, text: &str) -> Result<Headers, Memory> {
+    let mut headers = Items::new(alloc);
+    for one in text.split(",") {
+        if let Some(header) = header_of(alloc, one)? {
+            headers.push(header)?;
+        }
+    }
+    Ok(headers)
+}
+
+fn moment_of(words: &str) -> Option<Moment> {
+    match said(words, "at") {
+        None => Moment::of(0),
+        Some(at) => Moment::of(at.parse::<u64>().ok()?),
+    }
+}
+
+fn peer_of(words: &str) -> Option<Addr> {
+    parse_addr(said(words, "ip").unwrap_or("10.0.0.1").as_bytes())
+}
+
+fn minor_of(words: &str) -> u8
+    ensures { result ≤ 1 }
+{
+    if is_said(words, "version", "1.0") {
+        0
+    } else {
+        1
+    }
+}
+
+/// The request of a row; no memory where the row can't be read.
+fn request_of(alloc: Global, words: &str) -> Result<Request, Memory> {
+    let Some(at) = moment_of(words) else {
+        return Err(Memory);
+    };
+    let Some(from) = peer_of(words) else {
+        return Err(Memory);
+    };
+    let method = said(words, "method").unwrap_or("GET");
+    let target = said(words, "target").unwrap_or("/");
+    let headers = said(words, "headers").unwrap_or("host:a.example");
+    Ok(Request {
+        at,
+        from,
+        ssl: is_said(words, "ssl", "yes"),
+        method: Text::of(alloc, method.as_bytes())?,
+        target: Text::of(alloc, target.as_bytes())?,
+        minor: minor_of(words),
+        headers: headers_of(alloc, headers)?,
+        body: Text::of(alloc, b"")?,
+    })
+}
+
+/// The reply of a row, `STATUS` or `STATUS,NAME:VALUE`, if the row has one; no memory where it can't be read.
+fn reply_of(alloc: Global, words: &str) -> Result<Option<Reply>, Memory> {
+    let Some(text) = said(words, "reply") else {
+        return Ok(None);
+    };
+    let (status, headers) = text.split_once(",").unwrap_or((text, ""));
+    let Ok(status) = status.parse::<u16>() else {
+        return Err(Memory);
+    };
+    Ok(Some(Reply {
+        status,
+        headers: headers_of(alloc, headers)?,
+        body: Text::of(alloc, b"")?,
+    }))
+}
+
+fn no_lists(alloc: Global) -> ListKinds
+    ensures none { result ≡ [] }
+    ensures distinct { AreLists result }
+{
+    Items::new(alloc)
+}
+
+/// The expression that a text is.
+fn tree_of(alloc: Global, text: &str) -> Result<Expr, Memory> {
+    match parse(alloc, text.as_bytes()) {
+        Ok(tree) => Ok(tree),
+        Err(_) => Err(Memory),
+    }
+}
+
+/// A scheme in which no list has a name.
+fn scheme_of_none(alloc: Global) -> Result<Scheme, Memory>
+    ensures { IfOk result (λ scheme. scheme ≡ []) }
+{
+    Scheme::new(alloc, &no_lists(alloc))
+}
+
+/// A checked expression, under a scheme.
+fn typed_in(alloc: Global, scheme: &Scheme, tree: &Expr, place: Place) -> Result<Typed, Memory>
+    ensures { IfOk result (λ typed. typed.lists ≡ scheme.now) }
+{
+    match check(alloc, scheme, tree, place) {
+        Ok(typed) => Ok(typed),
+        Err(TypeFault::Memory) => Err(Memory),
+        Err(TypeFault::Bad { .. }) => Err(Memory),
+    }
+}
+
+/// A checked expression, where no list has a name.
+fn typed_of(alloc: Global, tree: &Expr, place: Place) -> Result<Typed, Memory>
+    ensures { IfOk result (λ typed. typed.lists ≡ []) }
+{
+    let scheme = scheme_of_none(alloc)?;
+    typed_in(alloc, &scheme, tree, place)
+}
+
+/// The store of no lists.
+fn store(alloc: Global) -> Result<Lists, Memory>
+    ensures { IfOk result (λ lists. lists ≡ []) }
+{
+    match Lists::build(alloc, ListParts::new(alloc)) {
+        Ok(lists) => Ok(lists),
+        Err(_) => Err(Memory),
+    }
+}
+
+/// A value as the rows write it.
+fn shown(value: &Option<Value>) -> &'static str {
+    match value {
+        None => "missing",
+        Some(Value::Bool(true)) => "true",
+        Some(Value::Bool(false)) => "false",
+        Some(_) => "no truth value",
+    }
+}
+
+/// The value of a checked expression, as the rows write it.
+fn value_of(
+    alloc: Global,
+    typed: &Typed,
+    request: &Request,
+    reply: Option<&Reply>,
+) -> Result<&'static str, Memory>
+    requires { typed.now.lists ≡ [] }
+{
+    let lists = store(alloc)?;
+    let value = eval(alloc, typed, request, reply, &lists)?;
+    Ok(shown(&value))
+}
+
+/// Whether it is met.
+fn truth_of(
+    alloc: Global,
+    typed: &Typed,
+    request: &Request,
+    reply: Option<&Reply>,
+) -> Result<bool, Memory>
+    requires { typed.now.lists ≡ [] }
+{
+    let lists = store(alloc)?;
+    is_met(alloc, typed, request, reply, &lists)
+}
+
+fn check_value(
+    rt: &impl Abort,
+    alloc: Global,
+    typed: &Typed,
+    words: &str,
+    wanted: &str,
+) -> Result<(), Memory>
+    requires { typed.now.lists ≡ [] }
+{
+    let request = request_of(alloc, words)?;
+    let reply = reply_of(alloc, words)?;
+    let value = value_of(alloc, typed, &request, reply.as_ref())?;
+    assert!(rt; value == wanted);
+    let is_true = truth_of(alloc, typed, &request, reply.as_ref())?;
+    assert!(rt; is_true == (wanted == "true"));
+    Ok(())
+}
+
+/// The place of a row: it tells of a reply where its request has one.
+fn place_of(words: &str) -> Place {
+    match said(words, "reply") {
+        None => Place::Filter,
+        Some(_) => Place::ReplyFilter,
+    }
+}
+
+fn check_tree(
+    rt: &impl Abort,
+    alloc: Global,
+    tree: &Expr,
+    words: &str,
+    wanted: &str,
+) -> Result<(), Memory> {
+    let typed = typed_of(alloc, tree, place_of(words))?;
+    check_value(rt, alloc, &typed, words, wanted)
+}
+
+fn check_text(
+    rt: &impl Abort,
+    alloc: Global,
+    text: &str,
+    words: &str,
+    wanted: &str,
+) -> Result<(), Memory> {
+    let tree = tree_of(alloc, text)?;
+    check_tree(rt, alloc, &tree, words, wanted)
+}
+
+fn check_row(rt: &impl Abort, alloc: Global, row: &str) -> Result<(), Memory> {
+    let mut parts = row.split("  ");
+    let text = parts.next().unwrap_or("");
+    let words = parts.next().unwrap_or("");
+    let wanted = parts.next().unwrap_or("");
+    check_text(rt, alloc, text, words, wanted)
+}
+
+#[test]
+fn each_expression_has_its_value(rt: HostRuntime) -> Result<(), Fail> {
+    let alloc = rt.alloc();
+    for row in ROWS.split("\n") {
+        check_row(&rt, alloc, row)?;
+    }
+    Ok(())
 }
