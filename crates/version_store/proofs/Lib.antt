@@ -1,0 +1,5 @@
+pub mod Adding
+pub mod Crosses
+pub mod Fronts
+pub mod NoticeLemmas
+pub mod Ruled

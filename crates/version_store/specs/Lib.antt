@@ -1,0 +1,4 @@
+pub mod Notices
+pub mod Books
+pub mod Rules
+pub mod Agreed
