@@ -1,3 +1,3 @@
-mod Crosses
+pub mod Crosses
 mod EntryLemmas
 mod SpokenLemmas
