@@ -5,7 +5,9 @@ use Rattle.edge_base.specs.declared.message.Request.{Request}
 use Rattle.edge_outside.specs.Lines.{lines_of}
 use Rattle.expr_parser.specs.Parsed.{AnswersAreUnique}
 use Rattle.trace_form.specs.Item.{IsBlank, IsDeploy, IsAsk}
-use Rattle.trace_form.proofs.ItemLemmas.{IsDeploy-unique, IsAsk-unique, blank-not_deploy, blank-not_ask, deploy-not_ask, Kind, kind-found}
+use Rattle.trace_form.specs.declared.refusal.BadCause.{BadCause}
+use Rattle.trace_form.specs.declared.refusal.BadCause.TheVariants as cause
+use Rattle.trace_form.proofs.ItemLemmas.{IsDeploy-unique, IsAsk-unique, IsNoItem-unique, blank-not_deploy, blank-not_ask, blank-not_no_item, deploy-not_ask, deploy-not_no_item, ask-not_no_item, Kind, kind-found}
 use Rattle.trace_form.proofs.ItemLemmas as kind
 use Rattle.edge_main.specs.InForce.{InForce, IsTaken, IsNotTaken, HasNoPatterns}
 use Rattle.edge_main.proofs.InForceLemmas.{found-taken, taken-not_refused, taken-unique}
@@ -20,9 +22,9 @@ kind_goes s given (kind.blank h) = (passed_by s, answered.blank h refl)
 kind_goes s given (kind.deploy value h) = of_value (found-taken value) where
   of_value : ((deployed : InForce) × IsTaken value deployed) ⊎ IsNotTaken value → (this : Answered) × IsAnswered s given this
   of_value (inl (deployed, taken)) = (put_in_force s deployed, answered.deployment value deployed h taken refl)
-  of_value (inr none) = (refused s, answered.bad (inr (value, h, none)) refl)
+  of_value (inr none) = (refused s cause.Unsupported, answered.bad cause.Unsupported (inr (value, h, none, refl)) refl)
 kind_goes s given (kind.ask request h) = (judged s request, answered.request request h refl)
-kind_goes s given (kind.no_item h) = (refused s, answered.bad (inl h) refl)
+kind_goes s given (kind.no_item why h) = (refused s why, answered.bad why (inl h) refl)
 
 -- some run over these lines
 pub some_run : (from : RunState) (lines : List (List ℕ)) → (run : List Answered) × (to : RunState) × IsRun from lines run to
@@ -57,18 +59,25 @@ texts-append (this ∷ a) b =
 abbrev IsPlain : List ℕ → Type 0
 IsPlain given = (value : Data) → IsDeploy given value → HasNoPatterns value
 
-blank-not_bad : (given : List ℕ) → IsBlank given → ¬ (IsBad given)
-blank-not_bad given blank (inl none) = none.not_blank blank
-blank-not_bad given blank (inr (value, h, e)) = blank-not_deploy given value blank h
+blank-not_bad : (given : List ℕ) (why : BadCause) → IsBlank given → ¬ (IsBad given why)
+blank-not_bad given why blank (inl none) = blank-not_no_item given why blank none
+blank-not_bad given why blank (inr (value, h, e, w)) = blank-not_deploy given value blank h
 
-ask-not_bad : (given : List ℕ) (request : Request) → IsAsk given request → ¬ (IsBad given)
-ask-not_bad given request ask (inl none) = none.not_ask request ask
-ask-not_bad given request ask (inr (value, h, e)) = deploy-not_ask given value request h ask
+ask-not_bad : (given : List ℕ) (request : Request) (why : BadCause) → IsAsk given request → ¬ (IsBad given why)
+ask-not_bad given request why ask (inl none) = ask-not_no_item given request why ask none
+ask-not_bad given request why ask (inr (value, h, e, w)) = deploy-not_ask given value request h ask
+
+IsBad-unique : (given : List ℕ) (a b : BadCause) → IsBad given a → IsBad given b → a ≡ b
+IsBad-unique given a b (inl none) (inl none') = IsNoItem-unique given a b none none'
+IsBad-unique given a b (inl none) (inr (value, h, e, w)) = absurd (deploy-not_no_item given value a h none)
+IsBad-unique given a b (inr (value, h, e, w)) (inl none) = absurd (deploy-not_no_item given value b h none)
+IsBad-unique given a b (inr (value, h, e, w)) (inr (value', h', e', w')) = w ∙ sym w'
 
 module _ (unique : AnswersAreUnique) where
-  taken-not_bad : (given : List ℕ) (value : Data) (deployed : InForce) → IsPlain given → IsDeploy given value → IsTaken value deployed → ¬ (IsBad given)
-  taken-not_bad given value deployed plain h taken (inl none) = none.not_deploy value h
-  taken-not_bad given value deployed plain h taken (inr (other, g, refused)) =
+  taken-not_bad : (given : List ℕ) (value : Data) (deployed : InForce) (why : BadCause) → IsPlain given → IsDeploy given value → IsTaken value deployed
+      → ¬ (IsBad given why)
+  taken-not_bad given value deployed why plain h taken (inl none) = deploy-not_no_item given value why h none
+  taken-not_bad given value deployed why plain h taken (inr (other, g, refused, w)) =
       taken-not_refused unique value deployed (plain value h) taken (subst IsNotTaken (IsDeploy-unique given other value g h) refused)
 
   same-taken : (given : List ℕ) (value other : Data) (a b : InForce) → IsPlain given → IsDeploy given value → IsDeploy given other
@@ -78,20 +87,20 @@ module _ (unique : AnswersAreUnique) where
 
   answered_unique : (s : RunState) (given : List ℕ) (a b : Answered) → IsPlain given → IsAnswered s given a → IsAnswered s given b → a ≡ b
   answered_unique s given a b plain (answered.blank h p) (answered.blank g q) = p ∙ sym q
-  answered_unique s given a b plain (answered.blank h p) (answered.bad g q) = absurd (blank-not_bad given h g)
+  answered_unique s given a b plain (answered.blank h p) (answered.bad why g q) = absurd (blank-not_bad given why h g)
   answered_unique s given a b plain (answered.blank h p) (answered.deployment value deployed g e q) = absurd (blank-not_deploy given value h g)
   answered_unique s given a b plain (answered.blank h p) (answered.request asked g q) = absurd (blank-not_ask given asked h g)
-  answered_unique s given a b plain (answered.bad h p) (answered.blank g q) = absurd (blank-not_bad given g h)
-  answered_unique s given a b plain (answered.bad h p) (answered.bad g q) = p ∙ sym q
-  answered_unique s given a b plain (answered.bad h p) (answered.deployment value deployed g e q) = absurd (taken-not_bad given value deployed plain g e h)
-  answered_unique s given a b plain (answered.bad h p) (answered.request asked g q) = absurd (ask-not_bad given asked g h)
+  answered_unique s given a b plain (answered.bad why h p) (answered.blank g q) = absurd (blank-not_bad given why g h)
+  answered_unique s given a b plain (answered.bad why h p) (answered.bad why' g q) = p ∙ ap (refused s) (IsBad-unique given why why' h g) ∙ sym q
+  answered_unique s given a b plain (answered.bad why h p) (answered.deployment value deployed g e q) = absurd (taken-not_bad given value deployed why plain g e h)
+  answered_unique s given a b plain (answered.bad why h p) (answered.request asked g q) = absurd (ask-not_bad given asked why g h)
   answered_unique s given a b plain (answered.deployment value deployed h e p) (answered.blank g q) = absurd (blank-not_deploy given value g h)
-  answered_unique s given a b plain (answered.deployment value deployed h e p) (answered.bad g q) = absurd (taken-not_bad given value deployed plain h e g)
+  answered_unique s given a b plain (answered.deployment value deployed h e p) (answered.bad why g q) = absurd (taken-not_bad given value deployed why plain h e g)
   answered_unique s given a b plain (answered.deployment value deployed h e p) (answered.deployment other deployed' g f q) =
       p ∙ ap (put_in_force s) (same-taken given value other deployed deployed' plain h g e f) ∙ sym q
   answered_unique s given a b plain (answered.deployment value deployed h e p) (answered.request asked g q) = absurd (deploy-not_ask given value asked h g)
   answered_unique s given a b plain (answered.request asked h p) (answered.blank g q) = absurd (blank-not_ask given asked g h)
-  answered_unique s given a b plain (answered.request asked h p) (answered.bad g q) = absurd (ask-not_bad given asked h g)
+  answered_unique s given a b plain (answered.request asked h p) (answered.bad why g q) = absurd (ask-not_bad given asked why h g)
   answered_unique s given a b plain (answered.request asked h p) (answered.deployment value deployed g e q) = absurd (deploy-not_ask given value asked g h)
   answered_unique s given a b plain (answered.request asked h p) (answered.request other g q) =
       p ∙ ap (judged s) (IsAsk-unique given asked other h g) ∙ sym q

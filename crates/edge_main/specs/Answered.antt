@@ -4,7 +4,6 @@ use Rattle.edge_base.specs.declared.message.Request.{Request}
 use Rattle.trace_form.specs.Line.{line, deploy_line, bad_line}
 use Rattle.trace_form.specs.declared.output.LineParts.{LineParts}
 use Rattle.trace_form.specs.declared.refusal.BadCause.{BadCause}
-use Rattle.trace_form.specs.declared.refusal.BadCause.TheVariants as cause
 use Rattle.edge_main.specs.InForce.{InForce}
 use Rattle.edge_main.specs.Judging.{verdict_of}
 
@@ -50,9 +49,9 @@ answered_as kind before after = record { kind = kind; text = written_for kind; b
 abbrev pub passed_by : RunState → Answered
 passed_by s = answered_as blank s (record s { lines = s.lines + 1 })
 
--- a line that is no item
-abbrev pub refused : RunState → Answered
-refused s = answered_as (bad (s.lines + 1) cause.Unsupported) s (record s { lines = s.lines + 1; any_bad = true })
+-- a line that is no item, for this cause
+abbrev pub refused : RunState → BadCause → Answered
+refused s why = answered_as (bad (s.lines + 1) why) s (record s { lines = s.lines + 1; any_bad = true })
 
 -- a deployment: it becomes the next version
 abbrev pub put_in_force : RunState → InForce → Answered

@@ -5,17 +5,20 @@ use Rattle.serde_json.specs.Data.{Data}
 use Rattle.edge_base.specs.declared.message.Request.{Request}
 use Rattle.edge_outside.specs.Lines.{lines_of}
 use Rattle.trace_form.specs.Item.{IsBlank, IsDeploy, IsAsk, IsNoItem}
+use Rattle.trace_form.specs.declared.refusal.BadCause.{BadCause}
+use Rattle.trace_form.specs.declared.refusal.BadCause.TheVariants as cause
 use Rattle.edge_main.specs.InForce.{InForce, IsTaken, IsNotTaken, HasNoPatterns}
 use Rattle.edge_main.specs.Answered.{RunState, opening, Answered, passed_by, refused, put_in_force, judged}
 
--- the line is no item: of no form, or a deployment that is not taken
-abbrev pub IsBad : List ℕ → Type 0
-IsBad given = IsNoItem given ⊎ ((value : Data) × IsDeploy given value × IsNotTaken value)
+-- why the line is refused: it is no item, or a deployment that is not taken
+abbrev pub IsBad : List ℕ → BadCause → Type 0
+IsBad given why =
+    IsNoItem given why ⊎ ((value : Data) × IsDeploy given value × IsNotTaken value × (why ≡ cause.Unsupported))
 
 -- the answer to a line of the input, where the run has come so far
 pub data IsAnswered (s : RunState) (given : List ℕ) (answered : Answered) : Type 0 where
   blank : IsBlank given → answered ≡ passed_by s → IsAnswered s given answered
-  bad : IsBad given → answered ≡ refused s → IsAnswered s given answered
+  bad : (why : BadCause) → IsBad given why → answered ≡ refused s why → IsAnswered s given answered
   deployment : (value : Data) (deployed : InForce) → IsDeploy given value → IsTaken value deployed
       → answered ≡ put_in_force s deployed → IsAnswered s given answered
   request : (asked : Request) → IsAsk given asked → answered ≡ judged s asked → IsAnswered s given answered

@@ -13,6 +13,7 @@ use Rattle.edge_main.specs.declared.replay.Turn.TheVariants as turn
 use Rattle.edge_main.specs.declared.replay.RunFault.{RunFault}
 use Rattle.edge_main.specs.declared.replay.RunFault.TheVariants as fault
 use Rattle.serde_json.specs.Data.{Data}
+use Rattle.trace_form.specs.declared.refusal.BadCause.TheVariants as cause
 use Rattle.edge_main.specs.InForce.{InForce, IsTaken, IsNotTaken}
 use Rattle.edge_main.specs.Answered.{RunState, opening, Answered, refused, put_in_force}
 use Rattle.edge_main.specs.Output.{IsAnswered, IsRun, texts_of}
@@ -26,7 +27,7 @@ Came answered text after = (text ≡ answered.text) × (after ≡ answered.after
 abbrev pub AnsweredDeployment : RunState → Data → List ℕ → RunState → Type 0
 AnsweredDeployment before value text after =
     ((deployed : InForce) × IsTaken value deployed × Came (put_in_force before deployed) text after)
-    ⊎ (IsNotTaken value × Came (refused before) text after)
+    ⊎ (IsNotTaken value × Came (refused before cause.Unsupported) text after)
 
 -- the run has answered a line
 abbrev pub AnsweredLine : RunState → List ℕ → List ℕ → RunState → Type 0

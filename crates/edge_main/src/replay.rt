@@ -11,6 +11,7 @@ use crate::statuses::Status;
 use edge_base::{Memory, TextBuilder};
 use edge_outside::{Failed, LineReader, LineStep, Sink, Source, write_all};
 use std::alloc::Global;
+use trace_form::BadCause;
 
 /// How many answered bytes are gathered before they are written.
 const PIECE: usize = 1 << 16;
@@ -115,7 +116,7 @@ impl Replay {
         ensures lines { OnOk result (self.new.run.lines ≡ self.old.run.lines + 1) }
         ensures reader { self.new.reader ≡ self.old.reader }
     {
-        self.run.refuse(&mut self.answer)?;
+        self.run.refuse(BadCause::LongLine, &mut self.answer)?;
         self.pending.push(self.answer.bytes())
     }
 

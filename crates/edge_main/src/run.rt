@@ -84,13 +84,13 @@ impl Run {
         self.lines += 1;
     }
 
-    /// A line that is no item.
-    pub fn refuse(&mut self, answer: &mut TextBuilder) -> Result<(), Memory>
+    /// A line that is no item, for this cause.
+    pub fn refuse(&mut self, why: BadCause, answer: &mut TextBuilder) -> Result<(), Memory>
         requires { self.old.lines < 2 ^ 40 }
-        ensures { OnOk result (Came (refused self.old) answer.new self.new) }
+        ensures { OnOk result (Came (refused self.old why) answer.new self.new) }
     {
         answer.clear();
-        push_bad_line(answer, self.lines + 1, BadCause::Unsupported)?;
+        push_bad_line(answer, self.lines + 1, why)?;
         self.lines += 1;
         self.any_bad = true;
         Ok(())
@@ -108,7 +108,7 @@ impl Run {
         ensures { OnOk result (AnsweredDeployment self.old (view value.now) answer.new self.new) }
     {
         let Some(deployed) = deployed_by(alloc, value)? else {
-            return self.refuse(answer);
+            return self.refuse(BadCause::Unsupported, answer);
         };
         answer.clear();
         push_deploy_line(answer, self.version + 1)?;
@@ -161,7 +161,7 @@ impl Run {
                 let Recorded { request, reply: _ } = recorded;
                 self.judge(alloc, request, answer)
             }
-            Err(LineFault::Bad(_)) => self.refuse(answer),
+            Err(LineFault::Bad(why)) => self.refuse(why, answer),
             Err(LineFault::Memory) => Err(Memory),
         }
     }

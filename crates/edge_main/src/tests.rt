@@ -42,6 +42,19 @@ const CONDITIONS: &str =
 const JUDGED: &str =
     "deploy v1\n1 v1 pass - /a -\n2 v1 block:403 fw/r2 /b -\n3 v1 pass - /c -\n4 v1 block:403 fw/r2 /d -\n5 v1 block:403 fw/r2 /e -\nbad 7 Unsupported\nbad 8 Unsupported\nbad 9 Unsupported\nbad 10 Unsupported\n6 v1 block:403 fw/r2 /e -\n";
 
+/// A line of each cause, a line with two, and what is ignored.
+const CAUSES: &str =
+    r#"{"raw":"GET"}
+{"at":-1,"ip":"x","method":"GET","target":"/"}
+{"at":-1,"ip":"::1","method":"GET","target":"/"}
+[]
+{"at":0,"ip":"::1","method":"GET","target":"/","note":{"raw":1}}
+{"deploy":{},"reply":0}
+x"#;
+
+const REFUSED: &str =
+    "bad 1 Unsupported\nbad 2 BadAddress\nbad 3 BadMoment\nbad 4 Shape\n1 v0 pass - / -\nbad 6 Unsupported\nbad 7 NotJson\n";
+
 /// What a run came to.
 #[derive(Debug, Drop)]
 struct Ran {
@@ -109,11 +122,11 @@ fn each_line_is_answered(rt: HostRuntime) -> Result<(), Fail> {
         (ROOT, "1 v0 pass - / -\n", Status::Done),
         (
             WITH_BAD,
-            "1 v0 pass - / -\nbad 2 Unsupported\n2 v0 pass - / -\n",
+            "1 v0 pass - / -\nbad 2 NotJson\n2 v0 pass - / -\n",
             Status::BadItems,
         ),
         (" \t\r\n\n", "", Status::Done),
-        ("[]\n", "bad 1 Unsupported\n", Status::BadItems),
+        (CAUSES, REFUSED, Status::BadItems),
         (CONDITIONS, JUDGED, Status::BadItems),
     ];
     for (input, out, status) in cases {

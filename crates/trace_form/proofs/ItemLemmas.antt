@@ -1,27 +1,34 @@
--- A line is at most one item, with one value, and what it is can be told of each line.
+-- A line is at most one item, with one value, or no item for one cause, and which of these it is can be told of each line.
 use mathlib.Core.HLevel.{is_prop→PathP}
 use Rattle.std.proofs.Math.Bridge.{le_prop}
-use Rattle.std.proofs.Common.{◌≡◌, ◌≤◌, ℕ, ◌+◌, ◌==◌, inl, inr, Bool, true, false, cond, List, [], Option, Some, None, refl, sym, ◌∙◌, subst, codes, bytes_eq, option_and_then, lit≤, arith}
-use Rattle.std.specs.Option.{option_map_or}
+use Rattle.std.proofs.Common.{◌≡◌, ◌≤◌, ℕ, inl, inr, Bool, true, false, cond, List, [], Option, Some, None, refl, sym, ap, ◌∙◌, subst, codes, bytes_eq, option_and_then, is_some, lit≤}
 use Rattle.std.specs.Str.{is_utf8}
-use Rattle.std.proofs.lemmas.Bool.{both_ways, eqb-true}
+use Rattle.std.proofs.lemmas.Bool.{both_ways}
 use Rattle.std.proofs.lemmas.Option.{none-some, same_Some}
 use Rattle.std.proofs.lemmas.Str.{IsUtf8-from_is_utf8, is_utf8-from_IsUtf8}
 use Rattle.edge_base.specs.Address.{IsAddrText}
 use Rattle.edge_base.proofs.AddressLemmas.{IsAddrText-unique}
 use Rattle.edge_base.proofs.FoundLemmas.{Found, found-address}
-use Rattle.serde_json.specs.Data.{Data, Members}
+use Rattle.serde_json.specs.Data.{Data}
 use Rattle.serde_json.specs.Read.{read}
-use Rattle.serde_json.specs.Find.{get, as_object, as_str}
-use Rattle.serde_json.specs.Events.{members_len}
+use Rattle.serde_json.specs.Find.{get, as_str}
 use Rattle.edge_base.specs.declared.message.Header.{Header}
 use Rattle.edge_base.specs.declared.message.Request.{Request}
 use Rattle.edge_base.specs.declared.address.Addr.{Addr}
-use Rattle.trace_form.specs.Members.{has_members, text_of}
-use Rattle.trace_form.specs.Asked.{moment_of, IsPeer, member_or, ssl_of, minor_in, minor_of, count_there, has_request_members, method_of, target_of, headers_of, IsRequest}
-use Rattle.trace_form.specs.Item.{is_short, is_blank, IsJson, deployed_of, IsBlank, IsDeploy, IsAsk, IsNoItem, IsNoValueItem}
+use Rattle.serde_json.specs.View.{view}
+use Rattle.trace_form.specs.declared.item.LineItem.TheVariants as lineitem
+use Rattle.trace_form.specs.declared.refusal.BadCause.{BadCause}
+use Rattle.trace_form.specs.declared.refusal.BadCause.TheVariants as cause
+use Rattle.trace_form.specs.declared.refusal.LineFault.{LineFault}
+use Rattle.trace_form.specs.declared.refusal.LineFault.TheVariants as fault
+use Rattle.trace_form.specs.Members.{text_of}
+use Rattle.trace_form.specs.Asked.{moment_of, IsPeer, member_or, ssl_of, minor_in, minor_of, method_of, target_of, headers_of, Told, IsTold, IsShapeless, IsRequest, IsNoRequest}
+use Rattle.trace_form.specs.Asked as asked
+use Rattle.trace_form.specs.Apart.{ItemsHaveNoCause}
+use Rattle.trace_form.specs.Item.{is_short, is_blank, IsJson, IsSolid, has_more, deployed_of, IsBlank, IsDeploy, IsAsking, IsAsk, IsNoItem, IsNoValueItem, SaysWhy}
+use Rattle.trace_form.specs.Item as bad
 
--- ---- what a line that holds no item is
+-- ---- a line is one value
 
 json-unique : (line : List ℕ) (a b : Data) → IsJson line a → IsJson line b → a ≡ b
 json-unique line a b is_a is_b = same_Some a b (sym is_a.1 ∙ is_b.1)
@@ -30,44 +37,21 @@ deployed-of_line : (line : List ℕ) (value deployed : Data) → IsJson line val
 deployed-of_line line value deployed json d =
     subst (λ v. deployed_of v ≡ Some deployed) (json-unique line d.value value d.json json) d.deploy
 
-request-of_line : (line : List ℕ) (value : Data) (request : Request) → IsJson line value → IsAsk line request → IsRequest value request
+request-of_line : (line : List ℕ) (value : Data) (request : Request) → IsJson line value → IsAsk line request → IsAsking value × IsRequest value request
 request-of_line line value request json a =
-    subst (λ v. IsRequest v request) (json-unique line a.value value a.json json) a.ask
-
-pub value-no_item : (line : List ℕ) (value : Data) → is_blank line ≡ false → IsJson line value → IsNoValueItem value → IsNoItem line
-value-no_item line value solid json none = record {
-  not_blank = λ blank. both_ways (is_blank line) solid blank.1;
-  not_deploy = λ deployed d. none-some deployed (sym none.not_deploy ∙ deployed-of_line line value deployed json d);
-  not_ask = λ request a. none.not_ask request (request-of_line line value request json a);
-}
+    subst (λ v. IsAsking v × IsRequest v request) (json-unique line a.value value a.json json) (a.asking, a.ask)
 
 -- ---- at most one kind, and one value
 
 pub blank-not_deploy : (line : List ℕ) (deployed : Data) → IsBlank line → ¬ (IsDeploy line deployed)
-blank-not_deploy line deployed blank d = both_ways (is_blank line) d.solid blank.1
+blank-not_deploy line deployed blank d = both_ways (is_blank line) d.solid.1 blank.1
 
 pub blank-not_ask : (line : List ℕ) (request : Request) → IsBlank line → ¬ (IsAsk line request)
-blank-not_ask line request blank a = both_ways (is_blank line) a.solid blank.1
-
-counts_apart : (members : Option Members) (m n : ℕ) → option_map_or (λ ms. members_len ms == m) members false ≡ true → option_map_or (λ ms. members_len ms == n) members false ≡ true → m ≡ n
-counts_apart None m n has_m has_n = absurd (both_ways false refl has_m)
-counts_apart (Some ms) m n has_m has_n = sym (eqb-true (members_len ms) m has_m) ∙ eqb-true (members_len ms) n has_n
-
-tested : (b : Bool) (found : Option Data) (value : Data) → cond b found None ≡ Some value → b ≡ true
-tested true found value e = refl
-tested false found value e = absurd (none-some value e)
-
-deployed-not_request : (value deployed : Data) (request : Request) → deployed_of value ≡ Some deployed → ¬ (IsRequest value request)
-deployed-not_request value deployed request is_deployed is_request =
-    let ssl = count_there (get (codes "ssl") value) in
-    let version = count_there (get (codes "version") value) in
-    let one : 1 ≡ 5 + ssl + version =
-    counts_apart (as_object value) 1 (5 + ssl + version) (tested (has_members 1 value) _ deployed is_deployed) is_request.members in
-    omega (arith, one)
+blank-not_ask line request blank a = both_ways (is_blank line) a.solid.1 blank.1
 
 pub deploy-not_ask : (line : List ℕ) (deployed : Data) (request : Request) → IsDeploy line deployed → ¬ (IsAsk line request)
 deploy-not_ask line deployed request d a =
-    deployed-not_request d.value deployed request d.deploy (request-of_line line d.value request d.json a)
+    none-some deployed (sym ((request-of_line line d.value request d.json a).0).0 ∙ d.deploy)
 
 pub IsDeploy-unique : (line : List ℕ) (a b : Data) → IsDeploy line a → IsDeploy line b → a ≡ b
 IsDeploy-unique line a b is_a is_b = same_Some a b (sym is_a.deploy ∙ deployed-of_line line is_a.value b is_a.json is_b)
@@ -79,7 +63,7 @@ IsPeer-unique value a b is_a is_b =
 
 IsRequest-unique : (value : Data) (a b : Request) → IsRequest value a → IsRequest value b → a ≡ b
 IsRequest-unique value a b is_a is_b =
-    let at = same_Some a.at b.at (sym is_a.at ∙ is_b.at) in
+    let at = same_Some a.at b.at (same_Some (Some a.at) (Some b.at) (sym is_a.at ∙ is_b.at)) in
     let from = IsPeer-unique value a.from b.from is_a.from is_b.from in
     let method = same_Some a.method b.method (sym is_a.method ∙ is_b.method) in
     let target = same_Some a.target b.target (sym is_a.target ∙ is_b.target) in
@@ -92,7 +76,102 @@ IsRequest-unique value a b is_a is_b =
 
 pub IsAsk-unique : (line : List ℕ) (a b : Request) → IsAsk line a → IsAsk line b → a ≡ b
 IsAsk-unique line a b is_a is_b =
-    IsRequest-unique is_a.value a b is_a.ask (request-of_line line is_a.value b is_a.json is_b)
+    IsRequest-unique is_a.value a b is_a.ask (request-of_line line is_a.value b is_a.json is_b).1
+
+-- ---- what is no item is none of the kinds
+
+-- what a request tells
+abbrev told-by : Request → List ℕ → Told
+told-by r ip = record { at = Some r.at; ip = ip; ssl = r.ssl; method = r.method; target = r.target; minor = r.minor; headers = r.headers }
+
+request-told : (value : Data) (r : Request) → (is : IsRequest value r) → IsTold value (told-by r is.from.0)
+request-told value r is = record {
+  at = is.at;
+  ip = is.from.1;
+  ssl = is.ssl;
+  method = is.method;
+  target = is.target;
+  minor = is.minor;
+  headers = is.headers;
+}
+
+request-not_none : (value : Data) (r : Request) (why : BadCause) → IsRequest value r → ¬ (IsNoRequest value why)
+request-not_none value r why is (asked.shape none w) = none (told-by r is.from.0) (request-told value r is)
+request-not_none value r why is (asked.address told is_told none w) = none r.from is.from
+request-not_none value r why is (asked.moment told is_told peer is_peer out w) =
+    none-some r.at (sym out ∙ same_Some told.at (Some r.at) (sym is_told.at ∙ is.at))
+
+pub blank-not_no_item : (line : List ℕ) (why : BadCause) → IsBlank line → ¬ (IsNoItem line why)
+blank-not_no_item line why blank (bad.long is_long w) = both_ways (is_short line) is_long blank.0
+blank-not_no_item line why blank (bad.no_json solid none w) = both_ways (is_blank line) solid.1 blank.1
+blank-not_no_item line why blank (bad.no_value_item solid value json none) = both_ways (is_blank line) solid.1 blank.1
+
+pub deploy-not_no_item : (line : List ℕ) (deployed : Data) (why : BadCause) → IsDeploy line deployed → ¬ (IsNoItem line why)
+deploy-not_no_item line deployed why d (bad.long is_long w) = both_ways (is_short line) is_long d.solid.0
+deploy-not_no_item line deployed why d (bad.no_json solid none w) = none d.value d.json
+deploy-not_no_item line deployed why d (bad.no_value_item solid value json (bad.more no_deploy more w)) =
+    none-some deployed (sym no_deploy ∙ deployed-of_line line value deployed json d)
+deploy-not_no_item line deployed why d (bad.no_value_item solid value json (bad.no_request asking none)) =
+    none-some deployed (sym asking.0 ∙ deployed-of_line line value deployed json d)
+
+pub ask-not_no_item : (line : List ℕ) (request : Request) (why : BadCause) → IsAsk line request → ¬ (IsNoItem line why)
+ask-not_no_item line request why a (bad.long is_long w) = both_ways (is_short line) is_long a.solid.0
+ask-not_no_item line request why a (bad.no_json solid none w) = none a.value a.json
+ask-not_no_item line request why a (bad.no_value_item solid value json (bad.more no_deploy more w)) =
+    both_ways (has_more value) (((request-of_line line value request json a).0).1) more
+ask-not_no_item line request why a (bad.no_value_item solid value json (bad.no_request asking none)) =
+    request-not_none value request why (request-of_line line value request json a).1 none
+
+pub items_have_no_cause : ItemsHaveNoCause
+items_have_no_cause line (lineitem.Deploy deployed) why is = deploy-not_no_item line (view deployed) why is
+items_have_no_cause line (lineitem.Ask recorded) why is = ask-not_no_item line recorded.request why is.0
+items_have_no_cause line lineitem.Blank why is = blank-not_no_item line why is
+
+pub none-of_is_some : {A : Type 0} (found : Option A) → is_some found ≡ false → found ≡ None
+none-of_is_some None h = refl
+none-of_is_some (Some x) h = absurd (both_ways true h refl)
+
+-- a refusal says what follows from what it says
+pub says-weaker : (P Q : BadCause → Type 0) → ((why : BadCause) → P why → Q why) → (f : LineFault) → SaysWhy P f → SaysWhy Q f
+says-weaker P Q then (fault.Bad why) h = then why h
+says-weaker P Q then fault.Memory h = tt
+
+-- ---- at most one cause
+
+same_cause : (a b c : BadCause) → a ≡ c → b ≡ c → a ≡ b
+same_cause a b c p q = p ∙ sym q
+
+told-moment : (value : Data) (a b : Told) → IsTold value a → IsTold value b → a.at ≡ b.at
+told-moment value a b p q = same_Some a.at b.at (sym p.at ∙ q.at)
+
+IsNoRequest-unique : (value : Data) (a b : BadCause) → IsNoRequest value a → IsNoRequest value b → a ≡ b
+IsNoRequest-unique value a b (asked.shape none p) (asked.shape none' q) = same_cause a b cause.Shape p q
+IsNoRequest-unique value a b (asked.shape none p) (asked.address told is none' q) = absurd (none told is)
+IsNoRequest-unique value a b (asked.shape none p) (asked.moment told is peer is_peer out q) = absurd (none told is)
+IsNoRequest-unique value a b (asked.address told is none p) (asked.shape none' q) = absurd (none' told is)
+IsNoRequest-unique value a b (asked.address told is none p) (asked.address told' is' none' q) = same_cause a b cause.BadAddress p q
+IsNoRequest-unique value a b (asked.address told is none p) (asked.moment told' is' peer is_peer out q) = absurd (none peer is_peer)
+IsNoRequest-unique value a b (asked.moment told is peer is_peer out p) (asked.shape none q) = absurd (none told is)
+IsNoRequest-unique value a b (asked.moment told is peer is_peer out p) (asked.address told' is' none q) = absurd (none peer is_peer)
+IsNoRequest-unique value a b (asked.moment told is peer is_peer out p) (asked.moment told' is' peer' is_peer' out' q) = same_cause a b cause.BadMoment p q
+
+IsNoValueItem-unique : (value : Data) (a b : BadCause) → IsNoValueItem value a → IsNoValueItem value b → a ≡ b
+IsNoValueItem-unique value a b (bad.more d more p) (bad.more d' more' q) = same_cause a b cause.Unsupported p q
+IsNoValueItem-unique value a b (bad.more d more p) (bad.no_request asking none) = absurd (both_ways (has_more value) asking.1 more)
+IsNoValueItem-unique value a b (bad.no_request asking none) (bad.more d more q) = absurd (both_ways (has_more value) asking.1 more)
+IsNoValueItem-unique value a b (bad.no_request asking none) (bad.no_request asking' none') = IsNoRequest-unique value a b none none'
+
+pub IsNoItem-unique : (line : List ℕ) (a b : BadCause) → IsNoItem line a → IsNoItem line b → a ≡ b
+IsNoItem-unique line a b (bad.long is_long p) (bad.long is_long' q) = same_cause a b cause.LongLine p q
+IsNoItem-unique line a b (bad.long is_long p) (bad.no_json solid none q) = absurd (both_ways (is_short line) is_long solid.0)
+IsNoItem-unique line a b (bad.long is_long p) (bad.no_value_item solid value json none) = absurd (both_ways (is_short line) is_long solid.0)
+IsNoItem-unique line a b (bad.no_json solid none p) (bad.long is_long q) = absurd (both_ways (is_short line) is_long solid.0)
+IsNoItem-unique line a b (bad.no_json solid none p) (bad.no_json solid' none' q) = same_cause a b cause.NotJson p q
+IsNoItem-unique line a b (bad.no_json solid none p) (bad.no_value_item solid' value json none') = absurd (none value json)
+IsNoItem-unique line a b (bad.no_value_item solid value json none) (bad.long is_long q) = absurd (both_ways (is_short line) is_long solid.0)
+IsNoItem-unique line a b (bad.no_value_item solid value json none) (bad.no_json solid' none' q) = absurd (none' value json)
+IsNoItem-unique line a b (bad.no_value_item solid value json none) (bad.no_value_item solid' value' json' none') =
+    IsNoValueItem-unique value a b none (subst (λ v. IsNoValueItem v b) (json-unique line value' value json' json) none')
 
 -- ---- what a line is
 
@@ -130,67 +209,77 @@ minor-within value minor is_minor = of_member (get (codes "version") value) is_m
   of_member None is = subst (λ m. m ≤ 1) (same_Some 1 minor is) (lit≤ tt)
   of_member (Some version) is = of_text (as_str version) is
 
--- what a request has beside its members' names and its peer
-record Parts (value : Data) (at : Option ℕ) (ssl : Option Bool) (minor : Option ℕ) (method target : Option (List ℕ)) (headers : Option (List Header)) : Type 0 where
+-- what an object tells, in its parts
+record Parts (value : Data) (at : Option (Option ℕ)) (ip : Option (List ℕ)) (ssl : Option Bool) (method target : Option (List ℕ)) (minor : Option ℕ) (headers : Option (List Header)) : Type 0 where
   at_is : moment_of value ≡ at
+  ip_is : text_of (codes "ip") value ≡ ip
   ssl_is : ssl_of value ≡ ssl
-  minor_is : minor_of value ≡ minor
   method_is : method_of value ≡ method
   target_is : target_of value ≡ target
+  minor_is : minor_of value ≡ minor
   headers_is : headers_of value ≡ headers
 
-request-of_parts : (value : Data) (members : Bool) (peer : Found (IsPeer value)) (at : Option ℕ) (ssl : Option Bool) (minor : Option ℕ) (method target : Option (List ℕ)) (headers : Option (List Header)) → has_request_members value ≡ members → Parts value at ssl minor method target headers → Found (IsRequest value)
-request-of_parts value false peer at ssl minor method target headers has parts = inr (λ r is. both_ways (has_request_members value) has is.members)
-request-of_parts value true (inr none) at ssl minor method target headers has parts = inr (λ r is. none r.from is.from)
-request-of_parts value true (inl from) None ssl minor method target headers has parts = inr (λ r is. none-some r.at (sym parts.at_is ∙ is.at))
-request-of_parts value true (inl from) (Some at) None minor method target headers has parts = inr (λ r is. none-some r.ssl (sym parts.ssl_is ∙ is.ssl))
-request-of_parts value true (inl from) (Some at) (Some ssl) None method target headers has parts = inr (λ r is. none-some r.minor (sym parts.minor_is ∙ is.minor))
-request-of_parts value true (inl from) (Some at) (Some ssl) (Some minor) None target headers has parts = inr (λ r is. none-some r.method (sym parts.method_is ∙ is.method))
-request-of_parts value true (inl from) (Some at) (Some ssl) (Some minor) (Some method) None headers has parts = inr (λ r is. none-some r.target (sym parts.target_is ∙ is.target))
-request-of_parts value true (inl from) (Some at) (Some ssl) (Some minor) (Some method) (Some target) None has parts = inr (λ r is. none-some r.headers (sym parts.headers_is ∙ is.headers))
-request-of_parts value true (inl (from, is_from)) (Some at) (Some ssl) (Some minor) (Some method) (Some target) (Some headers) has parts =
-    let request : Request = record { at = at; from = from; ssl = ssl; method = method; target = target; minor = minor; headers = headers; body = []; within = minor-within value minor parts.minor_is } in
-    let is_request : IsRequest value request = record { members = has; at = parts.at_is; from = is_from; ssl = parts.ssl_is; method = parts.method_is; target = parts.target_is; minor = parts.minor_is; headers = parts.headers_is; body = refl } in
-    inl (request, is_request)
+told-of_parts : (value : Data) (at : Option (Option ℕ)) (ip : Option (List ℕ)) (ssl : Option Bool) (method target : Option (List ℕ)) (minor : Option ℕ) (headers : Option (List Header)) → Parts value at ip ssl method target minor headers → Found (IsTold value)
+told-of_parts value None ip ssl method target minor headers parts = inr (λ t is. none-some t.at (sym parts.at_is ∙ is.at))
+told-of_parts value (Some at) None ssl method target minor headers parts = inr (λ t is. none-some t.ip (sym parts.ip_is ∙ is.ip))
+told-of_parts value (Some at) (Some ip) None method target minor headers parts = inr (λ t is. none-some t.ssl (sym parts.ssl_is ∙ is.ssl))
+told-of_parts value (Some at) (Some ip) (Some ssl) None target minor headers parts = inr (λ t is. none-some t.method (sym parts.method_is ∙ is.method))
+told-of_parts value (Some at) (Some ip) (Some ssl) (Some method) None minor headers parts = inr (λ t is. none-some t.target (sym parts.target_is ∙ is.target))
+told-of_parts value (Some at) (Some ip) (Some ssl) (Some method) (Some target) None headers parts = inr (λ t is. none-some t.minor (sym parts.minor_is ∙ is.minor))
+told-of_parts value (Some at) (Some ip) (Some ssl) (Some method) (Some target) (Some minor) None parts = inr (λ t is. none-some t.headers (sym parts.headers_is ∙ is.headers))
+told-of_parts value (Some at) (Some ip) (Some ssl) (Some method) (Some target) (Some minor) (Some headers) parts =
+    let told : Told = record { at = at; ip = ip; ssl = ssl; method = method; target = target; minor = minor; headers = headers } in
+    let is_told : IsTold value told = record { at = parts.at_is; ip = parts.ip_is; ssl = parts.ssl_is; method = parts.method_is; target = parts.target_is; minor = parts.minor_is; headers = parts.headers_is } in
+    inl (told, is_told)
 
-found-request : (value : Data) → Found (IsRequest value)
-found-request value =
-    request-of_parts value (has_request_members value) (found-peer value) (moment_of value) (ssl_of value) (minor_of value) (method_of value)
-    (target_of value) (headers_of value) refl
-    (record { at_is = refl; ssl_is = refl; minor_is = refl; method_is = refl; target_is = refl; headers_is = refl })
+found-told : (value : Data) → Found (IsTold value)
+found-told value =
+    told-of_parts value (moment_of value) (text_of (codes "ip") value) (ssl_of value) (method_of value) (target_of value) (minor_of value) (headers_of value)
+    (record { at_is = refl; ip_is = refl; ssl_is = refl; method_is = refl; target_is = refl; minor_is = refl; headers_is = refl })
 
 -- what a line is
 pub data Kind (line : List ℕ) : Type 0 where
   blank : IsBlank line → Kind line
   deploy : (deployed : Data) → IsDeploy line deployed → Kind line
   ask : (request : Request) → IsAsk line request → Kind line
-  no_item : IsNoItem line → Kind line
+  no_item : (why : BadCause) → IsNoItem line why → Kind line
 
-kind-of_value : (line : List ℕ) (value : Data) → is_short line ≡ true → is_blank line ≡ false → IsJson line value → (deployed : Option Data) → deployed_of value ≡ deployed → Found (IsRequest value) → Kind line
-kind-of_value line value short solid json (Some deployed) is_deployed request =
-    deploy deployed (record { short = short; solid = solid; value = value; json = json; deploy = is_deployed })
-kind-of_value line value short solid json None is_none (inl (request, is_request)) =
-    ask request (record { short = short; solid = solid; value = value; json = json; ask = is_request })
-kind-of_value line value short solid json None is_none (inr none) =
-    no_item (value-no_item line value solid json (record { not_deploy = is_none; not_ask = none }))
+kind-of_moment : (line : List ℕ) (value : Data) → IsSolid line → IsJson line value → IsAsking value → (told : Told) → IsTold value told
+    → (peer : Addr) → IsPeer value peer → (at : Option ℕ) → told.at ≡ at → Kind line
+kind-of_moment line value solid json asking told is_told peer is_peer None out =
+    no_item cause.BadMoment (bad.no_value_item solid value json (bad.no_request asking (asked.moment told is_told peer is_peer out refl)))
+kind-of_moment line value solid json asking told is_told peer is_peer (Some at) is_at =
+    let request : Request = record { at = at; from = peer; ssl = told.ssl; method = told.method; target = told.target; minor = told.minor; headers = told.headers; body = []; within = minor-within value told.minor is_told.minor } in
+    let is_request : IsRequest value request = record { at = is_told.at ∙ ap Some is_at; from = is_peer; ssl = is_told.ssl; method = is_told.method; target = is_told.target; minor = is_told.minor; headers = is_told.headers; body = refl } in
+    ask request (record { solid = solid; value = value; json = json; asking = asking; ask = is_request })
 
-kind-of_json : (line : List ℕ) → is_short line ≡ true → is_blank line ≡ false → Found (IsJson line) → Kind line
-kind-of_json line short solid (inl (value, json)) =
-    kind-of_value line value short solid json (deployed_of value) refl (found-request value)
-kind-of_json line short solid (inr none) = no_item (record {
-  not_blank = λ blank. both_ways (is_blank line) solid blank.1;
-  not_deploy = λ deployed d. none d.value d.json;
-  not_ask = λ request a. none a.value a.json;
-})
+kind-of_peer : (line : List ℕ) (value : Data) → IsSolid line → IsJson line value → IsAsking value → (told : Told) → IsTold value told
+    → Found (IsPeer value) → Kind line
+kind-of_peer line value solid json asking told is_told (inl (peer, is_peer)) = kind-of_moment line value solid json asking told is_told peer is_peer told.at refl
+kind-of_peer line value solid json asking told is_told (inr none) =
+    no_item cause.BadAddress (bad.no_value_item solid value json (bad.no_request asking (asked.address told is_told none refl)))
+
+kind-of_told : (line : List ℕ) (value : Data) → IsSolid line → IsJson line value → IsAsking value → Found (IsTold value) → Kind line
+kind-of_told line value solid json asking (inl (told, is_told)) = kind-of_peer line value solid json asking told is_told (found-peer value)
+kind-of_told line value solid json asking (inr none) =
+    no_item cause.Shape (bad.no_value_item solid value json (bad.no_request asking (asked.shape none refl)))
+
+kind-of_value : (line : List ℕ) (value : Data) → IsSolid line → IsJson line value → (deployed : Option Data) → deployed_of value ≡ deployed
+    → (more : Bool) → has_more value ≡ more → Kind line
+kind-of_value line value solid json (Some deployed) is_deploy more is_more =
+    deploy deployed (record { solid = solid; value = value; json = json; deploy = is_deploy })
+kind-of_value line value solid json None is_none true is_more =
+    no_item cause.Unsupported (bad.no_value_item solid value json (bad.more is_none is_more refl))
+kind-of_value line value solid json None is_none false is_more = kind-of_told line value solid json (is_none, is_more) (found-told value)
+
+kind-of_json : (line : List ℕ) → IsSolid line → Found (IsJson line) → Kind line
+kind-of_json line solid (inl (value, json)) = kind-of_value line value solid json (deployed_of value) refl (has_more value) refl
+kind-of_json line solid (inr none) = no_item cause.NotJson (bad.no_json solid none refl)
 
 kind-of_tests : (line : List ℕ) (short blank : Bool) → is_short line ≡ short → is_blank line ≡ blank → Kind line
-kind-of_tests line false b is_long is_b = no_item (record {
-  not_blank = λ h. both_ways (is_short line) is_long h.0;
-  not_deploy = λ deployed d. both_ways (is_short line) is_long d.short;
-  not_ask = λ request a. both_ways (is_short line) is_long a.short;
-})
+kind-of_tests line false b is_long is_b = no_item cause.LongLine (bad.long is_long refl)
 kind-of_tests line true true short is_b = blank (short, is_b)
-kind-of_tests line true false short solid = kind-of_json line short solid (found-json line)
+kind-of_tests line true false short solid = kind-of_json line (short, solid) (found-json line)
 
 pub kind-found : (line : List ℕ) → Kind line
 kind-found line = kind-of_tests line (is_short line) (is_blank line) refl refl

@@ -1,20 +1,29 @@
 -- The request that an object of a line tells.
-use Rattle.std.specs.Prelude.{◌≡◌, ℕ, ◌+◌, ◌^◌, Bool, true, false, ◌&&◌, not, ◌==◌, nat_lt, nat_le, cond, List, [], ◌∷◌, length, codes, Option, Some, None, MatchOption, option_and_then, option_map, bytes_eq}
+use Rattle.std.specs.Prelude.{◌≡◌, ℕ, ◌^◌, Bool, true, false, ◌&&◌, not, ◌==◌, nat_lt, nat_le, cond, List, [], ◌∷◌, length, codes, Option, Some, None, MatchOption, option_and_then, option_map, bytes_eq}
 use Rattle.std.specs.Bool.{then_some}
 use Rattle.std.specs.List.{list_all}
-use Rattle.serde_json.specs.Data.{Data, Items, no_items, item}
-use Rattle.serde_json.specs.Find.{get, at as element, as_bool, as_str, as_number, as_u64}
+use Rattle.serde_json.specs.Data.{Data, Num, unsigned, negative, float, Items, no_items, item}
+use Rattle.serde_json.specs.Find.{get, at as element, as_bool, as_str, as_array, as_number}
 use Rattle.serde_json.specs.Events.{items_len}
 use Rattle.edge_base.specs.declared.message.Header.{Header}
 use Rattle.edge_base.specs.declared.message.Request.{Request}
 use Rattle.edge_base.specs.declared.address.Addr.{Addr}
 use Rattle.edge_base.specs.Address.{IsAddrText}
-use Rattle.trace_form.specs.Members.{has_members, has_items, text_of, array_of, is_token}
+use Rattle.trace_form.specs.declared.refusal.BadCause.{BadCause}
+use Rattle.trace_form.specs.declared.refusal.BadCause.TheVariants as cause
+use Rattle.trace_form.specs.Members.{has_items, text_of, is_token}
 use Rattle.edge_base.specs.Bytes.{nul, newline, carriage_return, space, delete}
 
--- when it came: an integer from 0 to 2^53
-abbrev pub moment_of : Data → Option ℕ
-moment_of value = option_and_then (λ n. then_some (nat_le n (2 ^ 53)) n) (option_and_then as_u64 (option_and_then as_number (get (codes "at") value)))
+-- the moment that an integer tells, which is from 0 to 2^53; another number tells none, and an integer that is out of
+-- range tells that there is none
+abbrev pub moment_in : Num → Option (Option ℕ)
+moment_in (unsigned n) = Some (then_some (nat_le n (2 ^ 53)) n)
+moment_in (negative z) = Some None
+moment_in (float x) = None
+
+-- when it came
+abbrev pub moment_of : Data → Option (Option ℕ)
+moment_of value = option_and_then moment_in (option_and_then as_number (get (codes "at") value))
 
 -- the peer: the text of an address
 abbrev pub IsPeer : Data → Addr → Type 0
@@ -40,16 +49,6 @@ minor_in text = cond (bytes_eq text (codes "HTTP/1.0")) (Some 0) (cond (bytes_eq
 -- the last number of the version, by default of HTTP/1.1
 abbrev pub minor_of : Data → Option ℕ
 minor_of value = member_or 1 (λ version. option_and_then minor_in (as_str version)) (get (codes "version") value)
-
--- how many members of a name there are
-abbrev pub count_there : Option Data → ℕ
-count_there None = 0
-count_there (Some member) = 1
-
--- the value is an object of five members, and of `ssl` and `version` where they are there
-abbrev pub has_request_members : Data → Bool
-has_request_members value =
-    has_members (5 + count_there (get (codes "ssl") value) + count_there (get (codes "version") value)) value
 
 -- a token of at most 32 bytes
 abbrev pub is_method : List ℕ → Bool
@@ -93,16 +92,44 @@ abbrev pub headers_from : Items → Option (List Header)
 headers_from no_items = Some []
 headers_from (item value values) = option_and_then (λ header. option_map (λ headers. header ∷ headers) (headers_from values)) (header_of value)
 
--- the headers: an array of at most 100 of them
-abbrev pub headers_of : Data → Option (List Header)
-headers_of value = option_and_then
+-- an array of at most 100 headers
+abbrev pub headers_in : Data → Option (List Header)
+headers_in value = option_and_then
     (λ items. cond (nat_le (items_len items) 100) (headers_from items) None)
-    (array_of (codes "headers") value)
+    (as_array value)
 
--- the value is an object of the members of a request and no others, and this is the request
+-- the headers, by default none
+abbrev pub headers_of : Data → Option (List Header)
+headers_of value = member_or [] headers_in (get (codes "headers") value)
+
+-- what the object of a request tells: its moment, which is none where it is out of range, the text of its peer, and the
+-- parts of the request
+pub record Told : Type 0 where
+  pub at : Option ℕ
+  pub ip : List ℕ
+  pub ssl : Bool
+  pub method : List ℕ
+  pub target : List ℕ
+  pub minor : ℕ
+  pub headers : List Header
+
+-- each member that is needed is there, each that is there has its form, and this is what they tell
+pub record IsTold (value : Data) (told : Told) : Type 0 where
+  pub at : moment_of value ≡ Some told.at
+  pub ip : text_of (codes "ip") value ≡ Some told.ip
+  pub ssl : ssl_of value ≡ Some told.ssl
+  pub method : method_of value ≡ Some told.method
+  pub target : target_of value ≡ Some told.target
+  pub minor : minor_of value ≡ Some told.minor
+  pub headers : headers_of value ≡ Some told.headers
+
+-- a member that is needed isn't there, or one that is there hasn't its form
+abbrev pub IsShapeless : Data → Type 0
+IsShapeless value = (told : Told) → ¬ (IsTold value told)
+
+-- the value tells this request
 pub record IsRequest (value : Data) (request : Request) : Type 0 where
-  pub members : has_request_members value ≡ true
-  pub at : moment_of value ≡ Some request.at
+  pub at : moment_of value ≡ Some (Some request.at)
   pub from : IsPeer value request.from
   pub ssl : ssl_of value ≡ Some request.ssl
   pub method : method_of value ≡ Some request.method
@@ -111,7 +138,10 @@ pub record IsRequest (value : Data) (request : Request) : Type 0 where
   pub headers : headers_of value ≡ Some request.headers
   pub body : request.body ≡ []
 
--- the request that was found, or that there is none
-abbrev pub IsRequestFound : Data → Option Request → Type 0
-IsRequestFound value found =
-    MatchOption found ((request : Request) → ¬ (IsRequest value request)) (λ request. IsRequest value request)
+-- why a value tells no request, the first cause that applies: its shape, its peer or its moment
+pub data IsNoRequest (value : Data) (why : BadCause) : Type 0 where
+  shape : IsShapeless value → why ≡ cause.Shape → IsNoRequest value why
+  address : (told : Told) → IsTold value told → ((peer : Addr) → ¬ (IsPeer value peer)) → why ≡ cause.BadAddress
+      → IsNoRequest value why
+  moment : (told : Told) → IsTold value told → (peer : Addr) → IsPeer value peer → told.at ≡ None
+      → why ≡ cause.BadMoment → IsNoRequest value why

@@ -2,3 +2,5 @@ pub mod Members
 pub mod Asked
 pub mod Item
 pub mod Line
+pub mod Found
+pub mod Apart

@@ -57,6 +57,11 @@ deploy_line version = codes "deploy v" ++ decimal version ++ newline ∷ []
 
 -- the printed name of a cause
 abbrev pub cause_name : BadCause → List ℕ
+cause_name cause.LongLine = codes "LongLine"
+cause_name cause.NotJson = codes "NotJson"
+cause_name cause.Shape = codes "Shape"
+cause_name cause.BadAddress = codes "BadAddress"
+cause_name cause.BadMoment = codes "BadMoment"
 cause_name cause.Unsupported = codes "Unsupported"
 
 -- the line of an input line that is no item

@@ -3,7 +3,7 @@ use Rattle.std.specs.Prelude.{ℕ, Bool, false, ◌&&◌, ◌||◌, ◌==◌, na
 use Rattle.std.specs.Option.{option_map_or}
 use Rattle.std.specs.List.{list_any, list_all}
 use Rattle.std.specs.Char.{is_ascii_alphanumeric}
-use Rattle.serde_json.specs.Data.{Data, Items}
+use Rattle.serde_json.specs.Data.{Data}
 use Rattle.serde_json.specs.Find.{get, as_str, as_array, as_object}
 use Rattle.serde_json.specs.Events.{items_len, members_len}
 
@@ -18,10 +18,6 @@ has_items count value = option_map_or (λ items. items_len items == count) (as_a
 -- the text of a member
 abbrev pub text_of : List ℕ → Data → Option (List ℕ)
 text_of name value = option_and_then as_str (get name value)
-
--- the elements of a member that is an array
-abbrev pub array_of : List ℕ → Data → Option Items
-array_of name value = option_and_then as_array (get name value)
 
 -- a byte of a token (RFC 9110): a letter, a digit or one of fifteen marks
 abbrev pub is_token_byte : ℕ → Bool

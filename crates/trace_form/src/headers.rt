@@ -1,8 +1,8 @@
 ghost use Rattle.std.specs.Prelude.{◌≡◌, ◌∷◌, [], length, option_map, string_bytes, IfOk, MatchOption};
 ghost use Rattle.serde_json.specs.View.{view, items_view};
-ghost use Rattle.trace_form.specs.Asked.{is_header_value, pair_of, header_of, headers_from, headers_of};
+ghost use Rattle.trace_form.specs.Asked.{is_header_value, pair_of, header_of, headers_from, headers_in, headers_of};
 
-use crate::members::{array_of, count_of, is_token, items_of, string_of};
+use crate::members::{count_of, is_token, items_of, member_of, string_of};
 use edge_base::{Header, Headers, Memory, Text};
 use serde_json::Value;
 use std::alloc::Global;
@@ -69,16 +69,26 @@ fn headers_from(alloc: Global, values: Vec<Value>) -> Result<Option<Headers>, Me
     Ok(Some(headers))
 }
 
-/// The headers of a request, taken out of it.
-pub(crate) fn headers_of(alloc: Global, value: Value) -> Result<Option<Headers>, Memory>
-    ensures { IfOk result (λ found. found ≡ headers_of (view value)) }
+/// The headers that an array tells.
+fn headers_in(alloc: Global, value: Value) -> Result<Option<Headers>, Memory>
+    ensures { IfOk result (λ found. found ≡ headers_in (view value)) }
 {
-    let Some(pairs) = array_of(value, "headers") else {
+    let Some(pairs) = items_of(value) else {
         return Ok(None);
     };
     if count_of(pairs.as_slice()) <= MAX_HEADERS {
         headers_from(alloc, pairs)
     } else {
         Ok(None)
+    }
+}
+
+/// The headers of a request, taken out of it.
+pub(crate) fn headers_of(alloc: Global, value: Value) -> Result<Option<Headers>, Memory>
+    ensures { IfOk result (λ found. found ≡ headers_of (view value)) }
+{
+    match member_of(value, "headers") {
+        None => Ok(Some(Headers::new(alloc))),
+        Some(member) => headers_in(alloc, member),
     }
 }

@@ -4,14 +4,17 @@
 
 mod headers;
 mod item;
+mod laws;
 mod members;
 mod output;
 mod reader;
 mod refusal;
 mod request;
+mod told;
 mod verdict;
 
 pub use item::{LineItem, Recorded};
+pub use laws::{causes_are_unique, items_have_no_cause};
 pub use members::{has_members, text_of};
 pub use output::{LineParts, line_of, push_bad_line, push_deploy_line, push_line};
 pub use reader::read_item;

@@ -1,9 +1,9 @@
-ghost use Rattle.std.specs.Prelude.{◌≡◌, option_map, string_bytes};
+ghost use Rattle.std.specs.Prelude.{◌≡◌, option_map, is_some, string_bytes};
 ghost use Rattle.std.specs.List.{list_all};
 ghost use Rattle.serde_json.specs.Events.{items_len};
 ghost use Rattle.serde_json.specs.View.{view, items_view};
 ghost use Rattle.serde_json.specs.Find.{get, as_str, as_array};
-ghost use Rattle.trace_form.specs.Members.{has_members, text_of, array_of, is_token_byte, is_token};
+ghost use Rattle.trace_form.specs.Members.{has_members, text_of, is_token_byte, is_token};
 
 use serde_json::Value;
 
@@ -35,8 +35,15 @@ pub fn text_of<'v>(value: &'v Value, name: &str) -> Option<&'v [u8]>
     Some(text.as_bytes())
 }
 
+/// Whether the value is an object with this member.
+pub(crate) fn has_member(value: &Value, name: &str) -> bool
+    ensures { result ≡ is_some (get name.now (view value.now)) }
+{
+    value.get(name).is_some()
+}
+
 /// A member of an object, taken out of it.
-fn member_of(value: Value, name: &str) -> Option<Value>
+pub(crate) fn member_of(value: Value, name: &str) -> Option<Value>
     ensures { option_map view result ≡ get name.now (view value) }
 {
     match value {
@@ -53,13 +60,6 @@ pub(crate) fn items_of(value: Value) -> Option<Vec<Value>>
         Value::Array(values) => Some(values),
         _ => None,
     }
-}
-
-/// The elements of a member that is an array, taken out of the object.
-pub(crate) fn array_of(value: Value, name: &str) -> Option<Vec<Value>>
-    ensures { option_map (λ values. items_view values.items) result ≡ array_of name.now (view value) }
-{
-    items_of(member_of(value, name)?)
 }
 
 /// The text that a value is.

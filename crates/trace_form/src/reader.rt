@@ -1,11 +1,11 @@
-ghost use Rattle.std.specs.Prelude.{◌≡◌, ◌↔◌, option_map, IfOk, IfErr, IsErrOf, MatchOption, MatchResult, None};
+ghost use Rattle.std.specs.Prelude.{◌≡◌, ◌↔◌, true, Some, option_map, is_some, IfOk, IfErr};
 ghost use Rattle.serde_json.specs.Data.{Data};
 ghost use Rattle.serde_json.specs.Errors.{IsMemory};
 ghost use Rattle.serde_json.specs.View.{view};
-ghost use Rattle.trace_form.specs.Item.{is_short, is_blank, IsJson, deployed_of, IsItem, IsNoItem, IsValueItem, IsNoValueItem};
+ghost use Rattle.trace_form.specs.Item.{is_short, is_blank, IsJson, has_more, deployed_of, IsItem, IsNoItem, IsValueItem, IsNoValueItem, SaysWhy};
 
 use crate::item::{LineItem, Recorded};
-use crate::members::has_members;
+use crate::members::{has_member, member_of};
 use crate::refusal::{BadCause, LineFault};
 use crate::request::request_of;
 use serde_json::{Category, Error, Value};
@@ -31,19 +31,19 @@ fn is_blank(line: &[u8]) -> bool
 /// What a failed read of a line says of the line.
 fn fault_of(error: &Error) -> LineFault
     ensures memory { (result ≡ LineFault.Memory) ↔ IsMemory error.now }
-    ensures bad { (¬ (IsMemory error.now)) → result ≡ LineFault.Bad BadCause.Unsupported }
+    ensures bad { (¬ (IsMemory error.now)) → result ≡ LineFault.Bad BadCause.NotJson }
 {
     if error.classify() == Category::Memory {
         LineFault::Memory
     } else {
-        LineFault::Bad(BadCause::Unsupported)
+        LineFault::Bad(BadCause::NotJson)
     }
 }
 
 /// The JSON value that a line is.
 fn value_of(alloc: Global, line: &[u8]) -> Result<Value, LineFault>
     ensures ok { IfOk result (λ value. IsJson line.now (view value)) }
-    ensures bad { IsErrOf result (LineFault.Bad BadCause.Unsupported) → (value : Data) → ¬ (IsJson line.now value) }
+    ensures bad { IfErr result (SaysWhy (λ why. (why ≡ BadCause.NotJson) × ((value : Data) → ¬ (IsJson line.now value)))) }
 {
     match Value::from_slice(alloc, line) {
         Ok(value) => Ok(value),
@@ -51,41 +51,51 @@ fn value_of(alloc: Global, line: &[u8]) -> Result<Value, LineFault>
     }
 }
 
-/// The value of the one member `deploy`.
-fn deployed_of(value: &Value) -> Option<&Value>
-    ensures { option_map (λ deployed. view deployed.now) result ≡ deployed_of (view value.now) }
+/// Whether a member is there of which no request is taken yet.
+fn has_more(value: &Value) -> bool
+    ensures { result ≡ has_more (view value.now) }
 {
-    if has_members(value, 1) {
-        value.get("deploy")
-    } else {
-        None
+    has_member(value, "raw") || has_member(value, "reply")
+}
+
+/// The value of the member `deploy`, which is there; it is taken out.
+fn deployed_of(value: Value) -> Value
+    requires { is_some (deployed_of (view value)) ≡ true }
+    ensures { deployed_of (view value) ≡ Some (view result) }
+{
+    match member_of(value, "deploy") {
+        Some(deployed) => deployed,
+        None => unreachable!(),
     }
 }
 
 /// The item that a value is.
 fn item_of(alloc: Global, value: Value) -> Result<LineItem, LineFault>
-    ensures ok { IfOk result (λ item. IsValueItem (view value) item) }
-    ensures bad { IsErrOf result (LineFault.Bad BadCause.Unsupported) → IsNoValueItem (view value) }
+    ensures ok { IfOk result (IsValueItem (view value)) }
+    ensures bad { IfErr result (SaysWhy (IsNoValueItem (view value))) }
 {
-    if let Some(deployed) = deployed_of(&value) {
-        return Ok(LineItem::Deploy(deployed.clone()?));
+    if has_member(&value, "deploy") {
+        return Ok(LineItem::Deploy(deployed_of(value)));
     }
-    match request_of(alloc, value)? {
-        Some(request) => Ok(LineItem::Ask(Recorded {
+    if has_more(&value) {
+        return Err(LineFault::Bad(BadCause::Unsupported));
+    }
+    match request_of(alloc, value) {
+        Ok(request) => Ok(LineItem::Ask(Recorded {
             request,
             reply: None,
         })),
-        None => Err(LineFault::Bad(BadCause::Unsupported)),
+        Err(fault) => Err(fault),
     }
 }
 
-/// What a line of a trace is.
+/// What a line of a trace is, or the first cause why it is no item.
 pub fn read_item(alloc: Global, line: &[u8]) -> Result<LineItem, LineFault>
-    ensures ok { IfOk result (λ item. IsItem line.now item) }
-    ensures bad { IsErrOf result (LineFault.Bad BadCause.Unsupported) → IsNoItem line.now }
+    ensures ok { IfOk result (IsItem line.now) }
+    ensures bad { IfErr result (SaysWhy (IsNoItem line.now)) }
 {
     if !is_short(line) {
-        return Err(LineFault::Bad(BadCause::Unsupported));
+        return Err(LineFault::Bad(BadCause::LongLine));
     }
     if is_blank(line) {
         return Ok(LineItem::Blank);

@@ -4,10 +4,19 @@ ghost use Rattle.trace_form.specs.Line.{cause_name};
 use edge_base::Memory;
 use std::alloc::AllocError;
 
-/// Why a line is no item.
+/// Why a line is no item. Of several causes the first that stands here is told, but `Unsupported` stands in front of
+/// `Shape`.
 #[derive(Clone, Copy, Debug, PartialEq, Eq)]
 pub enum BadCause {
-    /// The line has none of the forms that are taken.
+    /// It has more than 1,048,576 bytes.
+    LongLine,
+    NotJson,
+    /// A member that is needed isn't there, or one hasn't its form.
+    Shape,
+    BadAddress,
+    /// The moment is below 0 or above 2^53.
+    BadMoment,
+    /// It has a form that isn't taken yet.
     Unsupported,
 }
 
@@ -24,6 +33,11 @@ impl BadCause {
         ensures { result.now ≡ cause_name self.now }
     {
         match self {
+            BadCause::LongLine => b"LongLine",
+            BadCause::NotJson => b"NotJson",
+            BadCause::Shape => b"Shape",
+            BadCause::BadAddress => b"BadAddress",
+            BadCause::BadMoment => b"BadMoment",
             BadCause::Unsupported => b"Unsupported",
         }
     }

@@ -1,16 +1,17 @@
-ghost use Rattle.std.specs.Prelude.{◌≡◌, ◌≤◌, option_map, IfOk, IfSome, MatchOption};
-ghost use Rattle.serde_json.specs.Find.{get};
+ghost use Rattle.std.specs.Prelude.{◌≡◌, ◌≤◌, option_map, IfOk, IfErr, IfSome};
 ghost use Rattle.std.specs.List.{list_all};
-ghost use Rattle.serde_json.specs.View.{view};
-ghost use Rattle.edge_base.specs.declared.message.Request.{Request};
-ghost use Rattle.edge_base.specs.declared.address.Addr.{Addr};
-ghost use Rattle.trace_form.specs.Asked.{is_method, is_target_byte, is_target, moment_of, IsPeerFound, ssl_of, minor_in, minor_of};
-ghost use Rattle.trace_form.specs.Asked.{count_there, has_request_members, method_of, target_of, IsRequestFound};
+ghost use Rattle.serde_json.specs.View.{view, number_view};
+ghost use Rattle.trace_form.specs.Asked.{is_method, is_target_byte, is_target, moment_in, moment_of, ssl_of, minor_in, minor_of};
+ghost use Rattle.trace_form.specs.Asked.{method_of, target_of, IsRequest, IsNoRequest};
+ghost use Rattle.trace_form.specs.Item.{SaysWhy};
+ghost use Rattle.trace_form.specs.Found.{IsToldFound};
 
 use crate::headers::headers_of;
-use crate::members::{has_members, is_token, text_of};
-use edge_base::{Addr, Memory, Moment, Request, Text, parse_addr};
-use serde_json::Value;
+use crate::members::{is_token, text_of};
+use crate::refusal::{BadCause, LineFault};
+use crate::told::Told;
+use edge_base::{Memory, Moment, Request, Text, parse_addr};
+use serde_json::{Number, Value};
 use std::alloc::Global;
 
 /// The longest method and the longest target, in bytes.
@@ -36,19 +37,24 @@ fn is_target(text: &[u8]) -> bool
     0 < text.len() && text.len() <= MAX_TARGET && are_target_bytes(text)
 }
 
-/// When the request came.
-fn moment_of(value: &Value) -> Option<Moment>
-    ensures { result ≡ moment_of (view value.now) }
+/// The moment that a number tells: none where it is no integer, and none inside where it isn't from 0 to 2^53.
+fn moment_in(number: &Number) -> Option<Option<Moment>>
+    ensures { result ≡ moment_in (number_view number.now) }
 {
-    let milliseconds = value.get("at")?.as_u64()?;
-    Moment::of(milliseconds)
+    if number.is_f64() {
+        return None;
+    }
+    match number.as_u64() {
+        Some(n) => Some(Moment::of(n)),
+        None => Some(None),
+    }
 }
 
-/// The peer.
-fn peer_of(value: &Value) -> Option<Addr>
-    ensures { IsPeerFound (view value.now) result }
+/// When the request came.
+fn moment_of(value: &Value) -> Option<Option<Moment>>
+    ensures { result ≡ moment_of (view value.now) }
 {
-    parse_addr(text_of(value, "ip")?)
+    moment_in(value.get("at")?.as_number()?)
 }
 
 /// Whether the request came over TLS.
@@ -86,25 +92,6 @@ fn minor_of(value: &Value) -> Option<u8>
     }
 }
 
-/// How many members of this name there are.
-fn count_there(value: &Value, name: &str) -> usize
-    ensures count { result ≡ count_there (get name.now (view value.now)) }
-    ensures within { result ≤ 1 }
-{
-    match value.get(name) {
-        None => 0,
-        Some(_) => 1,
-    }
-}
-
-/// Whether the value is an object of so many members as a request has that tells what this one tells.
-fn has_request_members(value: &Value) -> bool
-    ensures { result ≡ has_request_members (view value.now) }
-{
-    let told = count_there(value, "ssl") + count_there(value, "version");
-    has_members(value, 5 + told)
-}
-
 fn method_of(value: &Value) -> Option<&[u8]>
     ensures { option_map (λ text. text.now) result ≡ method_of (view value.now) }
 {
@@ -119,23 +106,18 @@ fn target_of(value: &Value) -> Option<&[u8]>
     if is_target(text) { Some(text) } else { None }
 }
 
-/// The request that an object tells. The texts of the headers are taken out of it.
-pub(crate) fn request_of(alloc: Global, value: Value) -> Result<Option<Request>, Memory>
-    ensures { IfOk result (IsRequestFound (view value)) }
+/// What an object tells, where it has the shape of a request. The texts of the headers are taken out of it.
+fn told_of(alloc: Global, value: Value) -> Result<Option<Told>, Memory>
+    ensures { IfOk result (IsToldFound (view value)) }
 {
-    if !has_request_members(&value) {
-        return Ok(None);
-    }
     let Some(at) = moment_of(&value) else {
         return Ok(None);
     };
-    let Some(from) = peer_of(&value) else {
+    let Some(ip) = text_of(&value, "ip") else {
         return Ok(None);
     };
+    let from = parse_addr(ip);
     let Some(ssl) = ssl_of(&value) else {
-        return Ok(None);
-    };
-    let Some(minor) = minor_of(&value) else {
         return Ok(None);
     };
     let Some(method) = method_of(&value) else {
@@ -144,12 +126,15 @@ pub(crate) fn request_of(alloc: Global, value: Value) -> Result<Option<Request>,
     let Some(target) = target_of(&value) else {
         return Ok(None);
     };
+    let Some(minor) = minor_of(&value) else {
+        return Ok(None);
+    };
     let method = Text::of(alloc, method)?;
     let target = Text::of(alloc, target)?;
     let Some(headers) = headers_of(alloc, value)? else {
         return Ok(None);
     };
-    Ok(Some(Request {
+    Ok(Some(Told {
         at,
         from,
         ssl,
@@ -157,6 +142,31 @@ pub(crate) fn request_of(alloc: Global, value: Value) -> Result<Option<Request>,
         target,
         minor,
         headers,
-        body: Text::from_vec(Vec::new(alloc)),
     }))
+}
+
+/// The request that an object tells, or the first cause why it tells none. The texts of the headers are taken out of it.
+pub(crate) fn request_of(alloc: Global, value: Value) -> Result<Request, LineFault>
+    ensures ok { IfOk result (IsRequest (view value)) }
+    ensures bad { IfErr result (SaysWhy (IsNoRequest (view value))) }
+{
+    let Some(told) = told_of(alloc, value)? else {
+        return Err(LineFault::Bad(BadCause::Shape));
+    };
+    let Some(from) = told.from else {
+        return Err(LineFault::Bad(BadCause::BadAddress));
+    };
+    let Some(at) = told.at else {
+        return Err(LineFault::Bad(BadCause::BadMoment));
+    };
+    Ok(Request {
+        at,
+        from,
+        ssl: told.ssl,
+        method: told.method,
+        target: told.target,
+        minor: told.minor,
+        headers: told.headers,
+        body: Text::from_vec(Vec::new(alloc)),
+    })
 }

@@ -1,9 +1,9 @@
-use Rattle.std.proofs.Common.{Err, refl, subst, ap, inl, ◌∙◌}
+use Rattle.std.proofs.Common.{refl, subst, inl}
 use Rattle.serde_json.specs.View.{view}
-use Rattle.trace_form.specs.Item.{IsItem}
+use Rattle.trace_form.specs.Item.{IsItem, IsNoItem, SaysWhy}
 use Rattle.edge_main.specs.Answered.{passed_by, refused, judged}
 use Rattle.edge_main.specs.Output as answered
-use Rattle.edge_main.proofs.RunLemmas.{OnOk-said, unsupported, deployment-answered}
+use Rattle.edge_main.proofs.RunLemmas.{OnOk-said, deployment-answered}
 use Rattle.edge_main.proofs.run.Run.answer.Goals as goal
 
 pub returns-in-Ok-Blank : goal.returns-in-Ok-Blank
@@ -26,6 +26,6 @@ returns-in-Ok-Ask c =
 
 pub returns-in-Err-Bad : goal.returns-in-Err-Bad
 returns-in-Err-Bad c =
-    OnOk-said c.refuse.result _ _
-    (λ came. (refused c.args.self.now, answered.bad (inl (c.in-Err-Bad.ensures.bad (ap Err (c.in-Err-Bad.field-0-is ∙ unsupported c.in-Err-Bad.field-0-0)))) refl, came))
-    c.refuse.ensures
+    let why = c.in-Err-Bad.why in
+    let none = subst (SaysWhy (IsNoItem c.args.given.now)) c.in-Err-Bad.field-0-is c.in-Err-Bad.ensures.bad in
+    OnOk-said c.refuse.result _ _ (λ came. (refused c.args.self.now why, answered.bad why (inl none) refl, came)) c.refuse.ensures

@@ -1,0 +1,17 @@
+ghost use Rattle.std.specs.Prelude.{◌≤◌};
+
+use edge_base::{Addr, Headers, Moment, Text};
+
+/// What the object of a request tells. The moment is none where it is out of range, the peer where its text is no
+/// address.
+#[derive(Drop)]
+pub struct Told {
+    pub at: Option<Moment>,
+    pub from: Option<Addr>,
+    pub ssl: bool,
+    pub method: Text,
+    pub target: Text,
+    pub minor: u8,
+    pub headers: Headers,
+    ghost within: { minor ≤ 1 },
+}
