@@ -1,3 +1,4 @@
 pub mod Crosses
 mod EntryLemmas
 mod SpokenLemmas
+mod OneRuleLemmas

@@ -31,3 +31,6 @@ pub use shared::config_may_be_shared;
 pub use skips::{SkippedRules, Skips, copy_phases, copy_skipped_rules};
 pub use spoken::speaks_of_reply;
 pub use verdict::{Response, Verdict, VerdictKind};
+
+#[cfg(test)]
+mod tests;
