@@ -2,13 +2,15 @@
 use Rattle.std.proofs.Common.{inl, inr, ◌≡◌, ◌<◌, ◌^◌, ℕ, List, length, Result, Ok, Err, OnOk, refl}
 use Rattle.std.proofs.lemmas.Bool.{lt-leb}
 use Rattle.serde_json.specs.Data.{Data}
-use Rattle.trace_form.specs.Item.{IsDeploy, IsNoItem}
+use Rattle.trace_form.specs.Item.{IsDeploy, IsNoItem, SaysWhy}
 use Rattle.trace_form.specs.Item as no_item
 use Rattle.trace_form.specs.declared.refusal.BadCause.TheVariants as cause
+use Rattle.trace_form.specs.declared.refusal.LineFault.{LineFault}
+use Rattle.trace_form.specs.declared.refusal.LineFault.TheVariants as fault
 use Rattle.edge_main.specs.InForce.{InForce, IsTaken, IsNotTaken}
 use Rattle.edge_main.specs.Answered.{RunState, refused, put_in_force}
 use Rattle.edge_main.specs.Output as answered
-use Rattle.edge_main.specs.Running.{AnsweredDeployment, AnsweredLine}
+use Rattle.edge_main.specs.Running.{RefusedFor, AnsweredDeployment, AnsweredLine}
 
 -- what an Ok says, said in another way
 pub OnOk-said : {T E : Type 0} (r : Result T E) (P Q : Type 0) → (P → Q) → OnOk r P → OnOk r Q
@@ -26,6 +28,12 @@ deployment-answered s given value text after h (inl (deployed, taken, came)) =
     (put_in_force s deployed, answered.deployment value deployed h taken refl, came)
 deployment-answered s given value text after h (inr (none, came)) =
     (refused s cause.Unsupported, answered.bad cause.Unsupported (inr (value, h, none, refl)) refl, came)
+
+-- what was refused for its cause is a line that was answered
+pub refusal-answered : (s : RunState) (given : List ℕ) (f : LineFault) (text : List ℕ) (after : RunState) → SaysWhy (IsNoItem given) f
+    → RefusedFor f s text after → AnsweredLine s given text after
+refusal-answered s given (fault.Bad why) text after none came = (refused s why, answered.bad why (inl none) refl, came)
+refusal-answered s given fault.Memory text after none came = absurd came
 
 pub deployment_taken : (s : RunState) (value : Data) (deployed : InForce) (text : List ℕ) (after : RunState) → IsTaken value deployed
     → text ≡ (put_in_force s deployed).text → after ≡ (put_in_force s deployed).after → AnsweredDeployment s value text after

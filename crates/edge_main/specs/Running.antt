@@ -14,6 +14,8 @@ use Rattle.edge_main.specs.declared.replay.RunFault.{RunFault}
 use Rattle.edge_main.specs.declared.replay.RunFault.TheVariants as fault
 use Rattle.serde_json.specs.Data.{Data}
 use Rattle.trace_form.specs.declared.refusal.BadCause.TheVariants as cause
+use Rattle.trace_form.specs.declared.refusal.LineFault.{LineFault}
+use Rattle.trace_form.specs.declared.refusal.LineFault.TheVariants as bad
 use Rattle.edge_main.specs.InForce.{InForce, IsTaken, IsNotTaken}
 use Rattle.edge_main.specs.Answered.{RunState, opening, Answered, refused, put_in_force}
 use Rattle.edge_main.specs.Output.{IsAnswered, IsRun, texts_of}
@@ -22,6 +24,11 @@ use Rattle.edge_main.specs.Ended.{Ended, WroteFront, WroteAnswers, WroteWhole, I
 -- this is the text that was made, and so far the run has come
 abbrev pub Came : Answered → List ℕ → RunState → Type 0
 Came answered text after = (text ≡ answered.text) × (after ≡ answered.after)
+
+-- the run has refused a line, for the cause why no item was read of it
+abbrev pub RefusedFor : LineFault → RunState → List ℕ → RunState → Type 0
+RefusedFor (bad.Bad why) before text after = Came (refused before why) text after
+RefusedFor bad.Memory before text after = ⊥
 
 -- the run has answered a deployment: it was taken, or refused
 abbrev pub AnsweredDeployment : RunState → Data → List ℕ → RunState → Type 0

@@ -2,7 +2,7 @@ ghost use Rattle.std.specs.Prelude.{◌≡◌, ◌<◌, ◌^◌, cond, IfOk, OnO
 ghost use Rattle.serde_json.specs.View.{view};
 ghost use Rattle.edge_main.specs.InForce.{IsTaken, IsNotTaken};
 ghost use Rattle.edge_main.specs.Answered.{opening, passed_by, refused, judged};
-ghost use Rattle.edge_main.specs.Running.{Came, AnsweredDeployment, AnsweredLine};
+ghost use Rattle.edge_main.specs.Running.{Came, RefusedFor, AnsweredDeployment, AnsweredLine};
 
 use crate::condition::deployed_by;
 use crate::judging::verdict_of;
@@ -96,6 +96,17 @@ impl Run {
         Ok(())
     }
 
+    /// A line of which no item was read, for its cause; or memory was refused.
+    fn refuse_for(&mut self, fault: LineFault, answer: &mut TextBuilder) -> Result<(), Memory>
+        requires { self.old.lines < 2 ^ 40 }
+        ensures { OnOk result (RefusedFor fault self.old answer.new self.new) }
+    {
+        match fault {
+            LineFault::Bad(why) => self.refuse(why, answer),
+            LineFault::Memory => Err(Memory),
+        }
+    }
+
     /// A deployment: it is put in force, or refused where it is not taken.
     #[tactic(auto, using(crate::proofs::RunLemmas::deployment_taken, crate::proofs::RunLemmas::deployment_refused))]
     fn deploy(
@@ -161,8 +172,7 @@ impl Run {
                 let Recorded { request, reply: _ } = recorded;
                 self.judge(alloc, request, answer)
             }
-            Err(LineFault::Bad(why)) => self.refuse(why, answer),
-            Err(LineFault::Memory) => Err(Memory),
+            Err(fault) => self.refuse_for(fault, answer),
         }
     }
 

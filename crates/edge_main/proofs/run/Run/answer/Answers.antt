@@ -1,9 +1,9 @@
-use Rattle.std.proofs.Common.{refl, subst, inl}
+use Rattle.std.proofs.Common.{refl, subst}
 use Rattle.serde_json.specs.View.{view}
-use Rattle.trace_form.specs.Item.{IsItem, IsNoItem, SaysWhy}
-use Rattle.edge_main.specs.Answered.{passed_by, refused, judged}
+use Rattle.trace_form.specs.Item.{IsItem}
+use Rattle.edge_main.specs.Answered.{passed_by, judged}
 use Rattle.edge_main.specs.Output as answered
-use Rattle.edge_main.proofs.RunLemmas.{OnOk-said, deployment-answered}
+use Rattle.edge_main.proofs.RunLemmas.{OnOk-said, deployment-answered, refusal-answered}
 use Rattle.edge_main.proofs.run.Run.answer.Goals as goal
 
 pub returns-in-Ok-Blank : goal.returns-in-Ok-Blank
@@ -24,8 +24,7 @@ returns-in-Ok-Ask c =
     let ask = (subst (IsItem c.args.given.now) c.in-Ok-Ask.field-0-is c.in-Ok-Ask.ensures.ok).0 in
     OnOk-said c.judge.result _ _ (λ came. (judged s asked, answered.request asked ask refl, came)) c.judge.ensures
 
-pub returns-in-Err-Bad : goal.returns-in-Err-Bad
-returns-in-Err-Bad c =
-    let why = c.in-Err-Bad.why in
-    let none = subst (SaysWhy (IsNoItem c.args.given.now)) c.in-Err-Bad.field-0-is c.in-Err-Bad.ensures.bad in
-    OnOk-said c.refuse.result _ _ (λ came. (refused c.args.self.now why, answered.bad why (inl none) refl, came)) c.refuse.ensures
+pub returns-in-Err : goal.returns-in-Err
+returns-in-Err c =
+    OnOk-said c.refuse_for.result _ _
+    (λ came. refusal-answered c.args.self.now c.args.given.now c.in-Err.fault _ _ c.in-Err.ensures.bad came) c.refuse_for.ensures
