@@ -62,18 +62,14 @@ pub data ActData : Type 0 where
   rewrites : RewriteData → ActData
   redirects : RedirectData → ActData
 
--- a counting expression's text, and whether it speaks of the reply
-pub record CountingData : Type 0 where
-  pub source : List ℕ
-  pub reply : Bool
-
--- a limit: the texts of its characteristics, its numbers in milliseconds, requests and milliseconds, and what it counts
+-- a limit: the texts of its characteristics, its numbers in milliseconds, requests and milliseconds, and the text of the
+-- expression that says what it counts
 pub record LimitData : Type 0 where
   pub characteristics : List (List ℕ)
   pub period : ℕ
   pub threshold : ℕ
   pub timeout : ℕ
-  pub counting : Option CountingData
+  pub counting : Option (List ℕ)
 
 pub record RuleData : Type 0 where
   pub id : List ℕ
@@ -132,16 +128,13 @@ act_data (act.Execute place overrides) = executes place overrides
 act_data (act.Rewrite rewrite) = rewrites (rewrite_data rewrite)
 act_data (act.Redirect redirect) = redirects (redirect_data redirect)
 
-abbrev pub counting_data : Counting → CountingData
-counting_data counting = record { source = counting.source; reply = counting.reply }
-
 abbrev pub limit_data : Limit → LimitData
 limit_data limit = record {
   characteristics = map (λ (one : Characteristic). one.source) limit.characteristics;
   period = limit.period;
   threshold = limit.threshold;
   timeout = limit.timeout;
-  counting = option_map counting_data limit.counting;
+  counting = option_map (λ (one : Counting). one.source) limit.counting;
 }
 
 abbrev pub rule_data : Rule → RuleData
