@@ -27,6 +27,10 @@ is_blank line = list_all (λ byte. byte == space || byte == tab || byte == carri
 abbrev pub IsJson : List ℕ → Data → Type 0
 IsJson text value = IsUtf8 text × (read text ≡ Some value)
 
+-- the text is no JSON, for this cause
+abbrev pub IsNoJson : List ℕ → BadCause → Type 0
+IsNoJson text why = (why ≡ cause.NotJson) × ((value : Data) → ¬ (IsJson text value))
+
 -- the line is blank
 abbrev pub IsBlank : List ℕ → Type 0
 IsBlank line = (is_short line ≡ true) × (is_blank line ≡ true)

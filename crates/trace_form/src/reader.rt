@@ -2,7 +2,7 @@ ghost use Rattle.std.specs.Prelude.{◌≡◌, ◌↔◌, true, Some, option_map
 ghost use Rattle.serde_json.specs.Data.{Data};
 ghost use Rattle.serde_json.specs.Errors.{IsMemory};
 ghost use Rattle.serde_json.specs.View.{view};
-ghost use Rattle.trace_form.specs.Item.{is_short, is_blank, IsJson, has_more, deployed_of, IsItem, IsNoItem, IsValueItem, IsNoValueItem, SaysWhy};
+ghost use Rattle.trace_form.specs.Item.{is_short, is_blank, IsJson, IsNoJson, has_more, deployed_of, IsItem, IsNoItem, IsValueItem, IsNoValueItem, SaysWhy};
 
 use crate::item::{LineItem, Recorded};
 use crate::members::{has_member, member_of};
@@ -43,7 +43,7 @@ fn fault_of(error: &Error) -> LineFault
 /// The JSON value that a line is.
 fn value_of(alloc: Global, line: &[u8]) -> Result<Value, LineFault>
     ensures ok { IfOk result (λ value. IsJson line.now (view value)) }
-    ensures bad { IfErr result (SaysWhy (λ why. (why ≡ BadCause.NotJson) × ((value : Data) → ¬ (IsJson line.now value)))) }
+    ensures bad { IfErr result (SaysWhy (IsNoJson line.now)) }
 {
     match Value::from_slice(alloc, line) {
         Ok(value) => Ok(value),
