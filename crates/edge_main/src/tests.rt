@@ -43,8 +43,7 @@ const JUDGED: &str =
     "deploy v1\n1 v1 pass - /a -\n2 v1 block:403 fw/r2 /b -\n3 v1 pass - /c -\n4 v1 block:403 fw/r2 /d -\n5 v1 block:403 fw/r2 /e -\nbad 7 Unsupported\nbad 8 Unsupported\nbad 9 Unsupported\nbad 10 Unsupported\n6 v1 block:403 fw/r2 /e -\n";
 
 /// A line of each cause, a line with two, and what is ignored.
-const CAUSES: &str =
-    r#"{"raw":"GET"}
+const CAUSES: &str = r#"{"raw":"GET"}
 {"at":-1,"ip":"x","method":"GET","target":"/"}
 {"at":-1,"ip":"::1","method":"GET","target":"/"}
 []

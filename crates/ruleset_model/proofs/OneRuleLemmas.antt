@@ -23,11 +23,16 @@ ssl_read = record {
   few = lit≤ tt;
   tokens = record { kind = token.Name; start = 0; end = 3 } ∷ [];
   terminals = terminal.Name (codes "ssl") ∷ [];
-  is_cut = (lit≤ tt, refl, record {
-    in_order = lit≤ tt;
-    is_longest = record { within = lit≤ tt; is_token = (refl, refl); longest = λ other other_kind fits is_other. fits };
-    neighbour = refl;
-  }, (lit≤ tt, refl));
+  is_cut = (
+    lit≤ tt,
+    refl,
+    record {
+      in_order = lit≤ tt;
+      is_longest = record { within = lit≤ tt; is_token = (refl, refl); longest = λ other other_kind fits is_other. fits };
+      neighbour = refl;
+    },
+    (lit≤ tt, refl),
+  );
   are_terminals = (refl, tt);
   derives = grammar.chain (grammar.one_xor (grammar.one_and (grammar.one_unit (grammar.untested (grammar.path grammar.name)))));
   shallow = lit≤ tt;
