@@ -1,4 +1,3 @@
 pub mod Crosses
 mod EntryLemmas
 mod SpokenLemmas
-mod OneRuleLemmas

@@ -1,16 +1,13 @@
-//! Worked examples; and a configuration with a ruleset and a rule, which meets the condition on configurations.
-ghost use Rattle.std.specs.Prelude.{◌≡◌, List, [], codes, IfOk};
-ghost use Rattle.ruleset_model.specs.Built.{IsBuilt};
-ghost use Rattle.ruleset_model.specs.Valid.{IsRuleValid, IsValid};
+//! Worked examples.
+ghost use Rattle.std.specs.Prelude.{◌≡◌, [], IfOk};
 
 use crate::entry_points::entry_points;
 use crate::{
-    Act, Config, Filter, Phase, Phases, REQUEST_PHASES, Response, Rule, Ruleset, RulesetKind,
-    Rulesets, SkippedRules, Skips, Verdict, VerdictKind, config_may_be_shared, speaks_of_reply,
+    Config, Filter, Phase, Phases, REQUEST_PHASES, Response, Ruleset, RulesetKind, Rulesets,
+    SkippedRules, Skips, Verdict, VerdictKind, config_may_be_shared, speaks_of_reply,
 };
 use edge_base::{Addr, Expr, Memory, Moment, Request, RuleName, RuleNames, Text, Texts};
 use edge_fields::Scheme;
-use list_store::Lists;
 use sqlite_items::{Boxed, Items};
 use std::alloc::Global;
 use std::process::Abort;
@@ -109,8 +106,7 @@ fn fields_of_a_reply_are_seen(rt: HostRuntime) -> Result<(), Fail> {
 
 /// The condition that the text `ssl` is.
 fn ssl_filter(alloc: Global) -> Result<Filter, Memory>
-    ensures lists { IfOk result (λ filter. filter.lists ≡ []) }
-    ensures built { IfOk result (IsBuilt [] Place.Filter (codes "ssl")) }
+    ensures { IfOk result (λ filter. filter.lists ≡ []) }
 {
     let scheme = Scheme::new(alloc, &Items::new(alloc))?;
     let expr = Expr::Field(Text::of(alloc, b"ssl")?);
@@ -118,63 +114,6 @@ fn ssl_filter(alloc: Global) -> Result<Filter, Memory>
         Ok(typed) => Ok(Filter::of(typed)),
         Err(_) => Err(Memory),
     }
-}
-
-/// A rule that logs requests over TLS.
-fn ssl_rule(alloc: Global) -> Result<Rule, Memory>
-    ensures { IfOk result (λ rule. (all : List Ruleset) → IsRuleValid [] all RulesetKind.Zone Phase.FirewallCustom [] rule) }
-{
-    let id = Text::of(alloc, b"r1")?;
-    let label = Text::of(alloc, b"")?;
-    let description = Text::of(alloc, b"")?;
-    let source = Text::of(alloc, b"ssl")?;
-    let filter = ssl_filter(alloc)?;
-    Ok(Rule {
-        id,
-        label,
-        description,
-        source,
-        tags: Items::new(alloc),
-        enabled: true,
-        filter,
-        act: Act::Log,
-        limit: None,
-    })
-}
-
-/// A ruleset with this rule.
-fn ssl_rulesets(alloc: Global) -> Result<Rulesets, Memory>
-    ensures { IfOk result (IsValid []) }
-{
-    let id = Text::of(alloc, b"fw")?;
-    let name = Text::of(alloc, b"")?;
-    let mut rules = Items::new(alloc);
-    rules.push(ssl_rule(alloc)?)?;
-    let mut sets = Items::new(alloc);
-    sets.push(Ruleset {
-        id,
-        name,
-        kind: RulesetKind::Zone,
-        phase: Phase::FirewallCustom,
-        rules,
-    })?;
-    Ok(sets)
-}
-
-fn ssl_config(alloc: Global) -> Result<Config, Memory> {
-    let rulesets = ssl_rulesets(alloc)?;
-    match Lists::build(alloc, Items::new(alloc)) {
-        Ok(lists) => Ok(Config::of(lists, rulesets)),
-        Err(_) => Err(Memory),
-    }
-}
-
-#[test]
-fn a_configuration_has_a_rule(rt: HostRuntime) -> Result<(), Fail> {
-    let config = ssl_config(rt.alloc())?;
-    assert_eq!(rt; config.entry(Phase::FirewallCustom), Some(0));
-    assert_eq!(rt; config.rulesets().len(), 1);
-    Ok(())
 }
 
 fn request_of(alloc: Global, ssl: bool) -> Result<Request, Memory> {
