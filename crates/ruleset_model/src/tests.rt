@@ -1,5 +1,6 @@
 //! Worked examples.
 ghost use Rattle.std.specs.Prelude.{◌≡◌, [], IfOk};
+ghost use Rattle.edge_fields.specs.Schemes.{AreLists};
 
 use crate::entry_points::entry_points;
 use crate::{
@@ -7,12 +8,12 @@ use crate::{
     SkippedRules, Skips, Verdict, VerdictKind, config_may_be_shared, speaks_of_reply,
 };
 use edge_base::{Addr, Expr, Memory, Moment, Request, RuleName, RuleNames, Text, Texts};
-use edge_fields::Scheme;
+use edge_fields::{ListKinds, Scheme};
 use sqlite_items::{Boxed, Items};
 use std::alloc::Global;
 use std::process::Abort;
 use std::test::Fail;
-use type_check::{Place, check};
+use type_check::{Place, TypeFault, Typed, check};
 
 #[test]
 fn phases_stand_in_their_order(rt: HostRuntime) {
@@ -104,16 +105,37 @@ fn fields_of_a_reply_are_seen(rt: HostRuntime) -> Result<(), Fail> {
     Ok(())
 }
 
-/// The condition that the text `ssl` is.
+fn no_lists(alloc: Global) -> ListKinds
+    ensures none { result ≡ [] }
+    ensures distinct { AreLists result }
+{
+    Items::new(alloc)
+}
+
+fn scheme_of_none(alloc: Global) -> Result<Scheme, Memory>
+    ensures { IfOk result (λ scheme. scheme ≡ []) }
+{
+    Scheme::new(alloc, &no_lists(alloc))
+}
+
+/// The checked expression, under a scheme.
+fn typed_in(alloc: Global, scheme: &Scheme, expr: &Expr) -> Result<Typed, Memory>
+    ensures { IfOk result (λ typed. typed.lists ≡ scheme.now) }
+{
+    match check(alloc, scheme, expr, Place::Filter) {
+        Ok(typed) => Ok(typed),
+        Err(TypeFault::Memory) => Err(Memory),
+        Err(TypeFault::Bad { .. }) => Err(Memory),
+    }
+}
+
+/// The condition that the field `ssl` is.
 fn ssl_filter(alloc: Global) -> Result<Filter, Memory>
     ensures { IfOk result (λ filter. filter.lists ≡ []) }
 {
-    let scheme = Scheme::new(alloc, &Items::new(alloc))?;
+    let scheme = scheme_of_none(alloc)?;
     let expr = Expr::Field(Text::of(alloc, b"ssl")?);
-    match check(alloc, &scheme, &expr, Place::Filter) {
-        Ok(typed) => Ok(Filter::of(typed)),
-        Err(_) => Err(Memory),
-    }
+    Ok(Filter::of(typed_in(alloc, &scheme, &expr)?))
 }
 
 fn request_of(alloc: Global, ssl: bool) -> Result<Request, Memory> {
