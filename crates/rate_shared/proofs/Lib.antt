@@ -4,3 +4,5 @@ pub mod Kept
 pub mod Stepped
 pub mod SeenLemmas
 pub mod MakingLemmas
+pub mod CloseLemmas
+pub mod GatherLemmas

@@ -1,6 +1,10 @@
 -- What clauses see of callers, notes, and the counters that they belong to.
 use Rattle.std.specs.Prelude.{◌≡◌, ℕ, ◌+◌, ◌≤◌, ◌<◌, List, [], ◌∷◌, length, slice_index_or}
+use Rattle.std.specs.declared.result.Result.{Result}
 use Rattle.atomic_table.specs.Seated.{TableId}
+use Rattle.rate_plain.specs.History.{own_of}
+use Rattle.rate_plain.specs.declared.entry.Ask.{Ask}
+use Rattle.rate_plain.specs.declared.entry.Counted.{Counted}
 use Rattle.rate_plain.specs.declared.entry.Entry.{Entry}
 use Rattle.rate_shared.specs.declared.rule.Shape.{Shape}
 use Rattle.rate_shared.specs.declared.seen.Seen.{Seen}
@@ -8,10 +12,15 @@ use Rattle.rate_shared.specs.declared.seen.Note.{Note}
 use Rattle.rate_shared.specs.declared.seen.Held.{Held}
 use Rattle.rate_shared.specs.declared.counters.Counters.{Counters}
 use Rattle.rate_shared.specs.Hands.{SitsAt, seen_of, IsHeld}
+use Rattle.rate_shared.specs.Answering.{Answers}
 
 -- what a caller has seen
 abbrev pub history_of : Seen → List Entry
 history_of seen = seen_of seen.seat.me
+
+-- its own entries in that
+abbrev pub own_history : Seen → List Entry
+own_history seen = own_of (history_of seen) seen.caller
 
 -- what its maker had seen when the note was made
 abbrev pub noted_of : Note → List Entry
@@ -44,7 +53,12 @@ pub record IsHeldOf (counters : Counters) (held : Held) : Type 0 where
 -- the same caller of the same counters
 abbrev pub IsSameCaller : Seen → Seen → Type 0
 IsSameCaller before after =
-    (after.caller ≡ before.caller) × (after.seat.table_id ≡ before.seat.table_id) × (after.seat.me.0.shape ≡ before.seat.me.0.shape)
+    (after.caller ≡ before.caller) × (after.seat.table_id ≡ before.seat.table_id)
+    × (after.seat.me.0.shape ≡ before.seat.me.0.shape)
+
+-- a step of the caller was counted, or refused
+abbrev pub TakesStep : {F : Type 0} → Shape → Seen → Seen → Ask → Result Counted F → Type 0
+TakesStep shape before after ask result = Answers shape before.caller (history_of before) (history_of after) ask result
 
 -- a caller of the table with this number, which has seen nothing
 abbrev pub Opens : TableId → Shape → ℕ → Seen → Type 0

@@ -30,6 +30,10 @@ IsNew cap slot = (x : Lane) × (slot ≡ Some x) × (cap_of x ≡ cap) × IsLane
 abbrev pub SitsAt : TableId → Shape → Chair → Type 0
 SitsAt table shape seat = (seat.table_id ≡ table) × (seat.me.0.shape ≡ shape)
 
+-- the seat is one of this table, which has one word more than it has slots
+abbrev pub IsAtLanes : TableId → Chair → Type 0
+IsAtLanes table seat = (seat.table_id ≡ table) × (table.words ≡ table.slots + 1)
+
 -- the same seat of the same table
 abbrev pub IsSameSeat : Chair → Chair → Type 0
 IsSameSeat before after = (after.table_id ≡ before.table_id) × (after.id ≡ before.id)

@@ -13,7 +13,8 @@ pub record Grows (shape : Shape) (caller : ℕ) (before after : List Entry) : Ty
   pub legal : IsLegal shape.lanes shape.cap after
   pub own : own_of after caller ≡ own_of before caller
 
--- a caller has seen more: a legal history that ends with the entry of its ask, its only further one, at the position told
+-- a caller has seen more: a legal history that ends with the entry of its ask, its only further one, at the position
+-- told
 pub record Counts (shape : Shape) (caller : ℕ) (before after : List Entry) (ask : Ask) (counted : Counted) : Type 0 where
   pub between : List Entry
   pub entry : Entry

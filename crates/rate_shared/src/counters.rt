@@ -29,11 +29,11 @@ pub struct Counters {
 }
 
 impl Counters {
-    ghost use Rattle.std.specs.Prelude.{◌≡◌, ◌^◌, ◌↔◌, IsErrOf, MatchResult};
+    ghost use Rattle.std.specs.Prelude.{◌≡◌, ◌^◌, ◌↔◌, IsErrOf};
     ghost use mathlib.Core.List.{IsPrefix};
-    ghost use Rattle.rate_plain.specs.History.{own_of};
-    ghost use Rattle.rate_shared.specs.Promise.{Grows, Counts};
-    ghost use Rattle.rate_shared.specs.Callers.{history_of, noted_of, history_of_held, shape_of, IsOf, IsNoteOf, IsHeldOf, IsSameCaller};
+    ghost use Rattle.rate_shared.specs.Promise.{Grows};
+    ghost use Rattle.rate_shared.specs.Callers.{history_of, own_history, noted_of, history_of_held, shape_of, IsSameCaller};
+    ghost use Rattle.rate_shared.specs.Callers.{IsOf, IsNoteOf, IsHeldOf, TakesStep};
 
     /// Answers by the window rule over all steps so far, and counts the step at the position told. A refusal changes
     /// nothing. Waits for its lane alone.
@@ -46,8 +46,8 @@ impl Counters {
     ) -> Result<Counted, StepFault>
         requires of { IsOf self.now seen.old }
         ensures same { IsSameCaller seen.old seen.new }
-        ensures counted { MatchResult result (λ c. Counts (shape_of self.now) seen.old.caller (history_of seen.old) (history_of seen.new) ask.now c) (λ _. history_of seen.new ≡ history_of seen.old) }
-        ensures spent { IsErrOf result StepFault.Spent ↔ (length (own_of (history_of seen.old) seen.old.caller) ≡ 2 ^ 40) }
+        ensures counted { TakesStep (shape_of self.now) seen.old seen.new ask.now result }
+        ensures spent { IsErrOf result StepFault.Spent ↔ (length (own_history seen.old) ≡ 2 ^ 40) }
     {
         if seen.taken == MOST_OWN {
             return Err(StepFault::Spent);
@@ -97,8 +97,8 @@ impl Counters {
         board.load::<LooksUp>(&mut seen.seat, 0)
     }
 
-    /// Takes the turn of the lane, and the lane, as a step does first. While the `Held` stands, and once it was dropped,
-    /// steps on other lanes go on. Waits for the lane; takes no memory.
+    /// Takes the turn of the lane, and the lane, as a step does first. While the `Held` stands, and once it was
+    /// dropped, steps on other lanes go on. Waits for the lane; takes no memory.
     pub fn hold<R: Wait>(&self, rt: &R, seen: Seen, lane: u32) -> Held
         requires of { IsOf self.now seen }
         requires lane { lane < (shape_of self.now).lanes }

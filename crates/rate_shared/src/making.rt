@@ -89,7 +89,8 @@ fn table_of(
     requires slots { (length slots.items ≡ shape.now.lanes) × All (IsNew shape.now.cap) slots.items }
     requires shape { IsShape shape.now }
     ensures table { IfOk result (λ t. (t.1.table_id ≡ t.0.shared.table_id) × (t.0.shared.key ≡ shape.now)) }
-    ensures counts { IfOk result (λ t. (t.0.shared.table_id.slots ≡ shape.now.lanes) × (t.0.shared.table_id.words ≡ t.0.shared.table_id.slots + 1)) }
+    ensures slots { IfOk result (λ t. t.0.shared.table_id.slots ≡ shape.now.lanes) }
+    ensures words { IfOk result (λ t. t.0.shared.table_id.words ≡ t.0.shared.table_id.slots + 1) }
     ensures first { IfOk result (λ t. t.1.me ≡ (maker shape.now, [])) }
 {
     match Table::new(alloc, words, slots, shape) {

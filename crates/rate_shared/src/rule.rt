@@ -1,6 +1,6 @@
 //! The table that all callers share, and what each seat at it knows.
-//! Word 0 is the length of the history, word `lane + 1` is 1 while somebody has the turn of the lane, which lies in slot
-//! `lane` otherwise.
+//! Word 0 is the length of the history, word `lane + 1` is 1 while somebody has the turn of the lane, which lies in
+//! slot `lane` otherwise.
 use atomic_table::{Seat, Shared, Table, TableRule};
 use rate_lane::Lane;
 use rate_plain::Entry;

@@ -35,12 +35,11 @@ pub struct Held {
 
 impl Seen {
     ghost use Rattle.std.specs.Prelude.{◌≡◌, length};
-    ghost use Rattle.rate_plain.specs.History.{own_of};
-    ghost use Rattle.rate_shared.specs.Callers.{history_of};
+    ghost use Rattle.rate_shared.specs.Callers.{own_history};
 
     /// How many steps the caller has taken. Takes no memory.
     pub fn taken(&self) -> u64
-        ensures { result ≡ length (own_of (history_of self.now) self.now.caller) }
+        ensures { result ≡ length (own_history self.now) }
     {
         self.taken
     }

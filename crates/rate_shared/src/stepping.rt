@@ -1,9 +1,9 @@
 //! One step, from the turn of a lane to its giving back.
-ghost use Rattle.std.specs.Prelude.{◌≡◌, ◌+◌, ◌^◌, ◌<◌, length, MatchResult};
+ghost use Rattle.std.specs.Prelude.{◌≡◌, ◌^◌, ◌<◌, length};
 ghost use Rattle.rate_plain.specs.Keys.{lane_of_key};
 ghost use Rattle.rate_plain.specs.History.{own_of};
-ghost use Rattle.rate_shared.specs.Hands.{IsSameSeat, resting, seen_of};
-ghost use Rattle.rate_shared.specs.Promise.{Counts};
+ghost use Rattle.rate_shared.specs.Hands.{IsAtLanes, IsSameSeat, resting, seen_of};
+ghost use Rattle.rate_shared.specs.Answering.{Answers};
 
 use crate::rule::{Board, Place};
 use crate::turns::{count, give_turn, put_lane, take_lane, take_turn};
@@ -22,7 +22,7 @@ pub(crate) fn step_on<R: Wait>(
     caller: u32,
     ask: &Ask,
 ) -> Result<Counted, Memory>
-    requires table { (place.old.table_id ≡ board.now.table_id) × (board.now.table_id.words ≡ board.now.table_id.slots + 1) }
+    requires table { IsAtLanes board.now.table_id place.old }
     requires lane { (lane < board.now.table_id.slots) × (lane < 1024) }
     requires of_lane { lane_of_key place.old.me.0.shape.lanes ask.now.key ≡ lane }
     requires idle { place.old.me ≡ resting place.old.me.0.shape caller (seen_of place.old.me) }
@@ -30,7 +30,7 @@ pub(crate) fn step_on<R: Wait>(
     requires room { length (own_of (seen_of place.old.me) caller) < 2 ^ 40 }
     ensures same { IsSameSeat place.old place.new }
     ensures idle { place.new.me ≡ resting place.old.me.0.shape caller (seen_of place.new.me) }
-    ensures counted { MatchResult result (λ c. Counts place.old.me.0.shape caller (seen_of place.old.me) (seen_of place.new.me) ask.now c) (λ _. seen_of place.new.me ≡ seen_of place.old.me) }
+    ensures counted { Answers place.old.me.0.shape caller (seen_of place.old.me) (seen_of place.new.me) ask.now result }
 {
     take_turn(rt, board, place, lane);
     let mut taken = take_lane(board, place, lane);

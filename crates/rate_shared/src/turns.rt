@@ -1,8 +1,9 @@
 //! The calls of one step: each is an atomic step on the table, or a plain one on the lane in hand.
-ghost use Rattle.std.specs.Prelude.{◌≡◌, ◌+◌, ◌<◌, [], ◌∷◌, Some, None, MatchBool, MatchResult};
+ghost use Rattle.std.specs.Prelude.{◌≡◌, ◌<◌, [], ◌∷◌, Some, None, MatchBool};
 ghost use Rattle.rate_shared.specs.Rule.{turn_word};
 ghost use Rattle.rate_shared.specs.Steps.{turned, going_on, TakesLane, Drew, IsInHand};
-ghost use Rattle.rate_shared.specs.Hands.{IsSameSeat, IsOut, TookTurn, next_entry, seen_of, MayDraw};
+ghost use Rattle.rate_shared.specs.Hands.{IsAtLanes, IsSameSeat, IsOut, TookTurn, next_entry, seen_of, MayDraw};
+ghost use Rattle.rate_shared.specs.Answering.{AnswersNext, DrewNext};
 
 use crate::plays::{Drawn, DrawsEntry, GivesTurn, TakesTurn};
 use crate::rule::{Board, Place};
@@ -16,7 +17,7 @@ use std::thread;
 
 /// Takes the turn of the lane, and its slot, if nobody has them.
 fn try_turn(board: &Board, place: &mut Place, lane: usize) -> bool
-    requires table { (place.old.table_id ≡ board.now.table_id) × (board.now.table_id.words ≡ board.now.table_id.slots + 1) }
+    requires table { IsAtLanes board.now.table_id place.old }
     requires lane { (lane < board.now.table_id.slots) × (lane < 1024) }
     requires some_lane { 0 < place.old.me.0.shape.lanes }
     ensures same { IsSameSeat place.old place.new }
@@ -27,7 +28,7 @@ fn try_turn(board: &Board, place: &mut Place, lane: usize) -> bool
 
 /// Waits for the turn of the lane, and takes it with the lane's slot.
 pub(crate) fn take_turn<R: Wait>(rt: &R, board: &Board, place: &mut Place, lane: usize)
-    requires table { (place.old.table_id ≡ board.now.table_id) × (board.now.table_id.words ≡ board.now.table_id.slots + 1) }
+    requires table { IsAtLanes board.now.table_id place.old }
     requires lane { (lane < board.now.table_id.slots) × (lane < 1024) }
     requires some_lane { 0 < place.old.me.0.shape.lanes }
     requires idle { place.old.me.1 ≡ [] }
@@ -65,7 +66,7 @@ fn draw_as<N: Drawn>(board: &Board, place: &mut Place, lane: usize, caller: u32,
 }
 
 /// Draws the next position, for the entry that the lane in hand gives.
-fn draw(board: &Board, place: &mut Place, lane: usize, caller: u32, ask: &Ask) -> u64
+pub(crate) fn draw(board: &Board, place: &mut Place, lane: usize, caller: u32, ask: &Ask) -> u64
     requires table { (place.old.table_id ≡ board.now.table_id) × (0 < board.now.table_id.words) }
     requires may { MayDraw place.old.me lane caller ask.now }
     ensures same { IsSameSeat place.old place.new }
@@ -91,8 +92,8 @@ pub(crate) fn count(
     ensures hand { IsInHand place.new.me.0.shape lane.new place.new.me.0.mine }
     ensures out { place.new.me.1 ≡ place.old.me.1 }
     ensures view { place.new.me.0 ≡ going_on place.old.me.0 (seen_of place.new.me) place.new.me.0.mine }
-    ensures answer { MatchResult result (λ c. (next_entry place.old.me caller ask.now).answer ≡ c.answer) (λ _. Unit {0}) }
-    ensures drew { MatchResult result (λ c. Drew (next_entry place.old.me caller ask.now) place.old.me c.position place.new.me) (λ _. place.new.me ≡ place.old.me) }
+    ensures answer { AnswersNext place.old.me caller ask.now result }
+    ensures drew { DrewNext place.old.me place.new.me caller ask.now result }
 {
     let answer = lane.step(alloc, ask)?;
     let position = draw(board, place, number, caller, ask);
@@ -111,7 +112,7 @@ pub(crate) fn put_lane(board: &Board, place: &mut Place, number: usize, lane: La
 
 /// Gives the turn of the lane back, and with it the slot.
 pub(crate) fn give_turn(board: &Board, place: &mut Place, lane: usize)
-    requires table { (place.old.table_id ≡ board.now.table_id) × (board.now.table_id.words ≡ board.now.table_id.slots + 1) }
+    requires table { IsAtLanes board.now.table_id place.old }
     requires lane { (lane < board.now.table_id.slots) × (lane < 1024) }
     requires turn { (0 < place.old.me.0.shape.lanes) × (place.old.me.0.turn ≡ turn_word lane) }
     requires out { IsOut lane place.old.me }

@@ -1,10 +1,6 @@
-use Rattle.std.proofs.Common.{rules, ◌≡◌, ◌+◌, ◌<◌, [], ◌∷◌, length, refl, sym, ap, ◌∙◌, subst, arith}
-use Rattle.std.proofs.lemmas.List.{length_push}
-use Rattle.rate_shared.specs.Steps.{Sat, without_number}
-use Rattle.rate_shared.specs.Hands.{seen_of}
-use Rattle.rate_shared.specs.Callers.{AllOpen, Opens}
+use Rattle.std.proofs.Common.{rules, ◌<◌, sym, ap, subst}
+use Rattle.rate_shared.specs.Steps.{Sat}
 use Rattle.rate_shared.proofs.Kept.{splits_number}
-use Rattle.rate_shared.proofs.MakingLemmas.{all_open_push, opens_ready}
 use Rattle.rate_shared.proofs.making.seens_of.Goals as goal
 
 pub split_seat-seat-requires : goal.split_seat-seat-requires

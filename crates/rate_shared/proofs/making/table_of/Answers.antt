@@ -1,4 +1,4 @@
-use Rattle.std.proofs.Common.{rules, subst, sym}
+use Rattle.std.proofs.Common.{subst, sym}
 use Rattle.atomic_table.specs.Table.{opening}
 use Rattle.rate_shared.specs.Rule.{maker, IsKept}
 use Rattle.rate_shared.proofs.Kept.{starts}

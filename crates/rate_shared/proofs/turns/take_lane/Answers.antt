@@ -1,4 +1,4 @@
-use Rattle.std.proofs.Common.{rules, [], ◌∷◌, sym, ap, ◌∙◌, Some}
+use Rattle.std.proofs.Common.{◌∷◌, sym, ap, ◌∙◌, Some}
 use Rattle.atomic_table.specs.Table.{rest}
 use Rattle.rate_shared.proofs.turns.take_lane.Goals as goal
 

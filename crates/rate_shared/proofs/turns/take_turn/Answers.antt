@@ -1,4 +1,4 @@
-use Rattle.std.proofs.Common.{◌≡◌, ◌∷◌, sym, ap, ◌∙◌, subst, Some}
+use Rattle.std.proofs.Common.{◌∷◌, sym, ap, ◌∙◌, subst, Some}
 use Rattle.rate_lane.specs.Lane.{IsLaneOf}
 use Rattle.rate_shared.specs.Rule.{turn_word}
 use Rattle.rate_shared.specs.Steps.{turned, TakesLane}

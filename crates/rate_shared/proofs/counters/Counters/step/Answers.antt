@@ -1,5 +1,4 @@
-use Rattle.std.proofs.Common.{rules, ◌≡◌, ◌+◌, ◌<◌, ◌^◌, sym, ap, ◌∙◌, subst, arith}
-use Rattle.rate_shared.specs.Hands.{seen_of}
+use Rattle.std.proofs.Common.{rules}
 use Rattle.rate_shared.proofs.SeenLemmas.{counted_ready, refused_ready}
 use Rattle.rate_shared.proofs.counters.Counters.step.Goals as goal
 
