@@ -9,6 +9,7 @@ use Rattle.std.specs.Char.{digit_value}
 use Rattle.std.specs.List.{list_all}
 use Rattle.std.specs.Str.{bytes_eq}
 use Rattle.std.specs.Str.Parse.{AllDigits, digits_value, digits_value_after}
+use Rattle.edge_base.proofs.DigitLemmas.{digits_grow}
 use Rattle.edge_base.specs.Token.{is_digit, is_counting, size_of, bits_of}
 
 pub AllDigits-at : (radix : ℕ) (ds : List ℕ) (i : ℕ) → AllDigits radix ds → i < length ds → digit_value (get_or ds i 0) < radix
@@ -35,11 +36,6 @@ digits_below [] h = tt
 digits_below (d ∷ ds) h =
     let both : (is_digit d ≡ true) × (list_all is_digit ds ≡ true) = and_parts _ _ h in
     (digit_below d both.0, digits_below ds both.1)
-
-digits_grow : (size : ℕ) (ds : List ℕ) → size ≤ digits_value_after 10 size ds
-digits_grow size [] = omega arith
-digits_grow size (d ∷ ds) =
-    let more : size * 10 + digit_value d ≤ digits_value_after 10 (size * 10 + digit_value d) ds = digits_grow (size * 10 + digit_value d) ds in omega arith
 
 -- digits that write bits
 pub record AreBits (ds : List ℕ) (bits : ℕ) : Type 0 where

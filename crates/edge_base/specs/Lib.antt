@@ -8,3 +8,4 @@ pub mod Ranges
 pub mod Spellings
 pub mod Terminal
 pub mod Token
+pub mod Version

@@ -1,6 +1,7 @@
--- How texts are escaped where they are printed.
-use Rattle.std.specs.Prelude.{ℕ, ◌+◌, ◌-◌, ◌/◌, ◌%◌, Bool, ◌&&◌, not, nat_lt, ◌==◌, cond, List, [], ◌∷◌, ◌++◌}
-use Rattle.edge_base.specs.Bytes.{space, percent, comma, digit_zero, upper_a, delete}
+-- How texts are escaped where they are printed, and how numbers and truth values are written.
+use Rattle.std.specs.Prelude.{ℕ, suc, ◌+◌, ◌-◌, ◌/◌, ◌%◌, ℤ, pos, negsuc, Bool, true, false, ◌&&◌, not, nat_lt, ◌==◌, cond}
+use Rattle.std.specs.Prelude.{List, [], ◌∷◌, ◌++◌, codes, decimal}
+use Rattle.edge_base.specs.Bytes.{space, percent, comma, minus, digit_zero, upper_a, delete}
 
 -- a byte that is printed as itself: none up to the blank, none from 0x7F on, no `%` and no `,`
 abbrev pub is_printed_byte : ℕ → Bool
@@ -18,3 +19,13 @@ escaped_byte byte = cond (is_printed_byte byte) (byte ∷ []) (percent ∷ hex_d
 abbrev pub escaped : List ℕ → List ℕ
 escaped [] = []
 escaped (byte ∷ text) = escaped_byte byte ++ escaped text
+
+-- a number in decimal, with `-` before a negative one
+abbrev pub signed : ℤ → List ℕ
+signed (pos n) = decimal n
+signed (negsuc n) = minus ∷ decimal (suc n)
+
+-- a truth value as a word
+abbrev pub truth_word : Bool → List ℕ
+truth_word true = codes "true"
+truth_word false = codes "false"

@@ -1,7 +1,7 @@
 ghost use Rattle.std.specs.Prelude.{◌≡◌, ◌+◌, ◌<◌, [], ◌∷◌, ◌++◌, length, OnOk, OnErr};
 ghost use Rattle.std.specs.Prelude.{decimal};
 ghost use Rattle.std.specs.Io.{StartsWith};
-ghost use Rattle.edge_base.specs.Printed.{is_printed_byte, hex_digit, escaped_byte, escaped};
+ghost use Rattle.edge_base.specs.Printed.{is_printed_byte, hex_digit, escaped_byte, escaped, signed};
 
 use crate::refusal::Memory;
 use crate::text::Text;
@@ -64,6 +64,17 @@ impl TextBuilder {
     {
         let mut digits = Buffer::new();
         self.push(digits.format(n).as_bytes())
+    }
+
+    /// A number in decimal, with `-` before a negative one. A refusal may leave the sign.
+    pub fn push_signed(&mut self, n: i64) -> Result<(), Memory>
+        ensures ok { OnOk result (self.new ≡ self.old ++ signed n) }
+        ensures err { OnErr result (StartsWith self.new self.old) }
+    {
+        if n < 0 {
+            self.push(b"-")?;
+        }
+        self.push_number(n.unsigned_abs())
     }
 
     /// One byte, as itself or as `%` and two digits; a refusal adds nothing.

@@ -1,4 +1,5 @@
 ghost use Rattle.std.specs.Prelude.{◌≡◌, ◌≤◌, IfOk};
+ghost use Rattle.edge_base.specs.Version.{version_text};
 
 use crate::address::Addr;
 use crate::moment::Moment;
@@ -66,6 +67,17 @@ pub fn copy_headers(alloc: Global, headers: &[Header]) -> Result<Headers, Memory
 }
 
 impl Request {
+    /// The version of HTTP as it is written. Takes no memory.
+    pub fn version(&self) -> &'static [u8]
+        ensures { result.now ≡ version_text self.now.minor }
+    {
+        if self.minor == 0 {
+            b"HTTP/1.0"
+        } else {
+            b"HTTP/1.1"
+        }
+    }
+
     pub fn copy(&self, alloc: Global) -> Result<Request, Memory>
         ensures { IfOk result (λ request. request ≡ self.now) }
     {

@@ -3,6 +3,7 @@ use Rattle.std.specs.Prelude.{◌≡◌, ℕ, pos, ◌/◌, ◌==◌, Bool, List
 use Rattle.std.specs.Option.{option_map, option_map_or}
 use Rattle.std.specs.Map.{keys_of, values_of}
 use Rattle.std.specs.Str.{str_eq_ignore_ascii_case, str_to_ascii_lowercase}
+use Rattle.edge_base.specs.Version.{version_text}
 use Rattle.edge_base.specs.declared.message.Header.{Header}
 use Rattle.edge_base.specs.declared.message.Request.{Request}
 use Rattle.edge_base.specs.declared.message.Reply.{Reply}
@@ -36,7 +37,7 @@ scheme_of request = if request.ssl then codes "https" else codes "http"
 
 -- the version of HTTP
 abbrev pub version_of : Request → List ℕ
-version_of request = if request.minor == 0 then codes "HTTP/1.0" else codes "HTTP/1.1"
+version_of request = version_text request.minor
 
 -- the uri with its scheme and its host in front
 abbrev pub full_uri_of : Request → List ℕ

@@ -25,11 +25,7 @@ pub fn host_of(request: &Request) -> &[u8]
 pub fn version_of(request: &Request) -> &'static [u8]
     ensures { result.now ≡ version_of request.now }
 {
-    if request.minor == 0 {
-        b"HTTP/1.0"
-    } else {
-        b"HTTP/1.1"
-    }
+    request.version()
 }
 
 /// The uri in one text.

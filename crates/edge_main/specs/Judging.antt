@@ -2,8 +2,8 @@
 use Rattle.std.specs.Prelude.{ℕ, Bool, false, cond, List, [], ◌∷◌, ◌++◌, codes, Option, Some, None}
 use Rattle.edge_base.specs.declared.message.Request.{Request}
 use Rattle.edge_fields.specs.declared.value.Value.{Value}
-use Rattle.trace_form.specs.declared.verdict.Verdict.{Verdict}
-use Rattle.trace_form.specs.declared.verdict.VerdictKind.TheVariants as kind
+use Rattle.ruleset_model.specs.declared.verdict.Verdict.{Verdict}
+use Rattle.ruleset_model.specs.declared.verdict.VerdictKind.TheVariants as kind
 use Rattle.type_check.specs.Meaning.{is_met}
 use Rattle.tree_eval.specs.Settings.{setting_of}
 use Rattle.edge_main.specs.InForce.{Rule, InForce}

@@ -5,8 +5,8 @@ ghost use Rattle.edge_main.specs.Written.{rule_kept, kept};
 use crate::rule::{BlockRule, Deployed};
 use edge_base::{Memory, Request, RuleNames, Text};
 use list_store::Lists;
+use ruleset_model::{Response, Verdict, VerdictKind};
 use std::alloc::Global;
-use trace_form::{Response, Verdict, VerdictKind};
 use tree_eval::is_met;
 
 /// The status, the text and its type with which a rule blocks that says nothing of them.

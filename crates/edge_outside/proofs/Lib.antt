@@ -1,3 +1,4 @@
 pub mod LinesLemmas
 pub mod SliceLemmas
 pub mod ReadingLemmas
+pub mod EchoLemmas

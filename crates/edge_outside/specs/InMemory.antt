@@ -1,6 +1,7 @@
 -- A source and a sink in memory as contracts see them, and what each call makes of them.
 use Rattle.std.specs.Prelude.{◌≡◌, ◌⊎◌, ℕ, ◌-◌, ◌<◌, List, [], ◌++◌, length, take, drop, min, Contains}
 use Rattle.edge_outside.specs.Faults.{next_count}
+use Rattle.edge_outside.specs.Shown.{SourceShown, SinkShown}
 
 -- a source over a text: what was taken and what is left of it, the most that a read moves, the numbers of the reads
 -- that fail, and the counts of reads and of faults
@@ -57,3 +58,11 @@ after_write store bytes = record store { got = store.got ++ bytes; room = store.
 -- after a write that failed
 abbrev pub after_failed_write : Store → Store
 after_failed_write store = record store { calls = next_count store.calls; faults = next_count store.faults }
+
+-- what a source in memory shows
+abbrev pub source_shown : Supply → SourceShown
+source_shown supply = record { taken = Some supply.taken; left = Some supply.left; faults = supply.faults }
+
+-- what a sink in memory shows
+abbrev pub sink_shown : Store → SinkShown
+sink_shown store = record { got = Some store.got; faults = store.faults }

@@ -1,6 +1,12 @@
 pub mod Faults
 pub mod Told
+pub mod Shown
+pub mod Doors
 pub mod InMemory
+pub mod MemoryDoors
+pub mod Echo
+pub mod Origins
+pub mod Clocks
 pub mod Lines
 pub mod Held
 pub mod Reading

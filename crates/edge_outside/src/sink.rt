@@ -9,9 +9,13 @@ use crate::failure::Failed;
 /// What bytes are written to.
 pub trait Sink {
     ghost use Rattle.std.specs.Prelude.{ℕ, List, Option};
+    ghost use Rattle.edge_outside.specs.Shown.{SourceShown};
 
     // The bytes written so far, where they are told.
     ghost got: { Self → Option (List ℕ) };
+
+    // What a source shows that is part of the same value, as in a link; writes leave it.
+    ghost beside: { Self → SourceShown };
 
     // How many writes failed.
     ghost faults: { Self → ℕ };
@@ -21,6 +25,7 @@ pub trait Sink {
         ensures bound { WritesAtMost result piece.now }
         ensures bytes { WriteAppends (got self.old) (got self.new) result piece.now }
         ensures moves { IfOk result (λ count. 0 < length piece.now → 0 < count) }
+        ensures stays { beside self.new ≡ beside self.old }
         ensures kept { OnOk result (faults self.new ≡ faults self.old) }
         ensures failed { OnErr result (Rose (faults self.old) (faults self.new)) }
         ensures later { faults self.old ≤ faults self.new };
@@ -30,6 +35,7 @@ pub trait Sink {
 pub fn write_all<K: Sink>(sink: &mut K, bytes: &[u8]) -> Result<(), Failed>
     ensures ok { OnOk result (Appends (K.got sink.old) (K.got sink.new) bytes.now) }
     ensures err { OnErr result (AppendsFront (K.got sink.old) (K.got sink.new) bytes.now) }
+    ensures stays { K.beside sink.new ≡ K.beside sink.old }
     ensures kept { OnOk result (K.faults sink.new ≡ K.faults sink.old) }
     ensures failed { OnErr result (Rose (K.faults sink.old) (K.faults sink.new)) }
     ensures later { K.faults sink.old ≤ K.faults sink.new }

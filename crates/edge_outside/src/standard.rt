@@ -59,10 +59,13 @@ impl<R: Read + Drop> StdinSource<R> {
 
 impl<R: Read + Drop> Source for StdinSource<R> {
     ghost use Rattle.std.specs.Prelude.{None};
+    ghost use Rattle.edge_outside.specs.Shown.{no_sink};
 
     ghost taken = { λ _. None };
 
     ghost left = { λ source. R.remaining source.inner };
+
+    ghost beside = { λ _. no_sink };
 
     ghost faults = { λ source. source.faults };
 
@@ -87,7 +90,11 @@ impl<W: Write + Drop> StdoutSink<W> {
 }
 
 impl<W: Write + Drop> Sink for StdoutSink<W> {
+    ghost use Rattle.edge_outside.specs.Shown.{no_source};
+
     ghost got = { λ sink. W.contents sink.inner };
+
+    ghost beside = { λ _. no_source };
 
     ghost faults = { λ sink. sink.faults };
 
@@ -106,7 +113,11 @@ impl<W: Write + Drop> StderrSink<W> {
 }
 
 impl<W: Write + Drop> Sink for StderrSink<W> {
+    ghost use Rattle.edge_outside.specs.Shown.{no_source};
+
     ghost got = { λ sink. W.contents sink.inner };
+
+    ghost beside = { λ _. no_source };
 
     ghost faults = { λ sink. sink.faults };
 

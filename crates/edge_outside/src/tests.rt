@@ -1,3 +1,6 @@
+mod links;
+mod origins;
+
 use crate::{
     Failed, LineReader, LineStep, Numbers, Sink, Source, StderrSink, StdinSource, StdoutSink,
     TextSink, TextSource, write_all,

@@ -71,10 +71,21 @@ impl TextSink {
     {
         self.bytes.as_slice()
     }
+
+    /// How many writes failed.
+    pub fn faults(&self) -> u64
+        ensures { result ≡ self.now.faults }
+    {
+        self.faults
+    }
 }
 
 impl Sink for TextSink {
+    ghost use Rattle.edge_outside.specs.Shown.{no_source};
+
     ghost got = { λ sink. Some sink.got };
+
+    ghost beside = { λ _. no_source };
 
     ghost faults = { λ sink. sink.faults };
 

@@ -69,12 +69,37 @@ impl TextSource {
             faults: 0,
         }
     }
+
+    /// What was taken. Takes no memory.
+    pub fn taken(&self) -> &[u8]
+        ensures { result.now ≡ self.now.taken }
+    {
+        &self.bytes.bytes()[..self.at]
+    }
+
+    /// What is left. Takes no memory.
+    pub fn left(&self) -> &[u8]
+        ensures { result.now ≡ self.now.left }
+    {
+        &self.bytes.bytes()[self.at..]
+    }
+
+    /// How many reads failed.
+    pub fn faults(&self) -> u64
+        ensures { result ≡ self.now.faults }
+    {
+        self.faults
+    }
 }
 
 impl Source for TextSource {
+    ghost use Rattle.edge_outside.specs.Shown.{no_sink};
+
     ghost taken = { λ source. Some source.taken };
 
     ghost left = { λ source. Some source.left };
+
+    ghost beside = { λ _. no_sink };
 
     ghost faults = { λ source. source.faults };
 

@@ -6,6 +6,7 @@ use Rattle.std.proofs.lemmas.Bool.Decides.{nat_tests}
 use Rattle.std.specs.List.{list_all, starts_with, slice_split, onto_first}
 use Rattle.std.specs.Str.Parse.{digits_value_after}
 use Rattle.std.specs.Char.{digit_value}
+use Rattle.edge_base.proofs.DigitLemmas.{digits_grow}
 use Rattle.edge_base.specs.declared.token.TokenKind.{TokenKind}
 use Rattle.edge_base.specs.declared.token.TokenKind.TheVariants as kind
 use Rattle.edge_base.specs.Token.{is_digit, is_name_start, is_name_byte, is_part, is_name, quoted_of, raw_bytes_of, marks_of}
@@ -86,11 +87,6 @@ in_name (byte ∷ text) = record {
 
 pub digit_is : (byte : ℕ) → is_digit byte ≡ true → digit_value byte ≡ byte - 48
 digit_is byte digit = grind (arith, nat_tests)
-
-pub digits_grow : (size : ℕ) (text : List ℕ) → size ≤ digits_value_after 10 size text
-digits_grow size [] = omega arith
-digits_grow size (byte ∷ text) =
-    let more : size * 10 + digit_value byte ≤ digits_value_after 10 (size * 10 + digit_value byte) text = digits_grow (size * 10 + digit_value byte) text in omega arith
 
 pub from_digits : (most size : ℕ) (text : List ℕ) → size ≤ most
     → kind_from (state.Digits most size) text ≡ kind_where (list_all is_digit text && nat_le (digits_value_after 10 size text) most) kind.Number

@@ -16,7 +16,7 @@ use Rattle.expr_lexer.proofs.ByteLemmas.{begins_with, begins-append, begins_by, 
 use Rattle.expr_lexer.proofs.TakenLemmas.{one_passes, reserved_is_name}
 use Rattle.expr_lexer.proofs.ApartLemmas.{is_number_byte, number_bytes, number_byte_is_no_dot, text_begins, raw_begins, list_name_begins}
 use Rattle.edge_base.proofs.BlockLemmas.{is_slash, block_splits}
-use Rattle.expr_parser.specs.Spelling.{signed}
+use Rattle.edge_base.specs.Printed.{signed}
 use Rattle.expr_parser.proofs.NumbersRead.{IsInI64, number_in_range, number_is_read, decimal_digits}
 use Rattle.expr_parser.proofs.AddressesRead.{address_is_read}
 use Rattle.expr_parser.proofs.Dots.{is_spaced, is_no_dot, spaced-append, unspaced, undotted, undotted_some, digits_have_no_dot, address_spaced, name_spaced}

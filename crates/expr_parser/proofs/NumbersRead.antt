@@ -9,8 +9,8 @@ use Rattle.std.specs.List.{list_all}
 use Rattle.std.specs.Str.Parse.{digits_value}
 use Rattle.edge_base.specs.Token.{is_digit, is_counting, size_of, number_of, bits_of}
 use Rattle.expr_lexer.proofs.ByteLemmas.{all_digits, digit_counts, digit_is_no_minus, counted_is_digit, counted_is_not_zero}
-use Rattle.expr_lexer.proofs.StateLemmas.{digits_grow}
-use Rattle.expr_parser.specs.Spelling.{signed}
+use Rattle.edge_base.proofs.DigitLemmas.{digits_grow}
+use Rattle.edge_base.specs.Printed.{signed}
 
 -- ---- digits that count
 

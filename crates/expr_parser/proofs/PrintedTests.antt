@@ -16,7 +16,8 @@ use Rattle.edge_base.specs.Address.{IsAddrText, addr_text}
 use Rattle.edge_base.specs.Token.{number_of, is_reserved, IsBlockText}
 use Rattle.edge_base.specs.Terminal.{reserved}
 use Rattle.edge_base.specs.Grammar.{IsLiteral, text_literal, number_literal, address_literal, IsListedItem, literal_item, block_item, numbers_item, addresses_item, IsListedItems, one_item, more_items, IsTest, in_order, contains, matches, wildcard, strict_wildcard, in_list, in_items}
-use Rattle.expr_parser.specs.Spelling.{quoted, signed, lit_spelling, order_word, item_spelling, items_spelling, test_spelling}
+use Rattle.expr_parser.specs.Spelling.{quoted, lit_spelling, order_word, item_spelling, items_spelling, test_spelling}
+use Rattle.edge_base.specs.Printed.{signed}
 use Rattle.expr_parser.proofs.TreeTerminals.{lit_terminal, item_terminals, items_terminals, test_terminals}
 use Rattle.expr_parser.proofs.Written.{ends_before, StandsFor, IsSound, AreSound, IsCutInto, cut_blank, cut_token, IsWritten}
 use Rattle.expr_parser.proofs.Sound.{sound_front, sound_back}

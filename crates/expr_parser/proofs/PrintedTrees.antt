@@ -11,7 +11,8 @@ use Rattle.edge_base.specs.declared.token.TokenKind.TheVariants as kind
 use Rattle.edge_base.specs.Token.{is_reserved}
 use Rattle.edge_base.specs.Terminal.{reserved}
 use Rattle.edge_base.specs.Grammar.{together, number_literal, IsExpression, literal, chain, IsChain, one_xor, more_xors, IsXor, one_and, more_ands, IsAnd, one_unit, more_units, IsUnit, negated, group, untested, tested, IsOperand, true_word, false_word, path, IsPath, name, call, index, key, each, IsArguments, one_argument, more_arguments, Derives}
-use Rattle.expr_parser.specs.Spelling.{quoted, signed, lit_spelling, test_spelling, joined, within, spelling_at, spelling}
+use Rattle.expr_parser.specs.Spelling.{quoted, lit_spelling, test_spelling, joined, within, spelling_at, spelling}
+use Rattle.edge_base.specs.Printed.{signed}
 use Rattle.expr_parser.proofs.SpellingLaws.{spelled_lit, spelled_field, spelled_call, spelled_at, spelled_key, spelled_each, spelled_test, spelled_not, spelled_and, spelled_xor, spelled_or}
 use Rattle.expr_parser.proofs.TreeTerminals.{lit_terminal, test_terminals, joined_terminals, grouped, terminals_at, terminals_lit, terminals_field, terminals_call, terminals_index, terminals_key, terminals_each, terminals_test, terminals_not, terminals_and, terminals_xor, terminals_or}
 use Rattle.expr_parser.proofs.Written.{ends_before, AreSound, IsCutInto, cut_end, IsWritten}

@@ -9,7 +9,8 @@ use Rattle.edge_base.specs.declared.expression.Expr.{Expr}
 use Rattle.edge_base.specs.declared.expression.Expr.TheVariants as expr
 use Rattle.edge_base.specs.declared.expression.Expr.TheOpen as open_expr
 use Rattle.edge_base.specs.declared.expression.Expr.TheFolds as folds
-use Rattle.expr_parser.specs.Spelling.{escaped_text, lit_spelling, signed, quoted, item_spelling, items_spelling, test_spelling, SpelledAt, joined, within, spelling_step, spelling_at}
+use Rattle.expr_parser.specs.Spelling.{escaped_text, lit_spelling, quoted, item_spelling, items_spelling, test_spelling, SpelledAt, joined, within, spelling_step, spelling_at}
+use Rattle.edge_base.specs.Printed.{signed}
 
 pub spelled_lit : (l : Lit) (n : ℕ) → spelling_at (expr.Lit l) n ≡ lit_spelling l
 spelled_lit l n = ap (λ (f : SpelledAt). f n) (ap spelling_at (sym (expr.rolls-Lit l)) ∙ folds.fold-roll-Expr SpelledAt spelling_step (open_expr.Lit l))

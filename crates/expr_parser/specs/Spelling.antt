@@ -13,7 +13,8 @@ use Rattle.edge_base.specs.declared.expression.Expr.{Expr}
 use Rattle.edge_base.specs.declared.expression.Expr.TheOpen as open_expr
 use Rattle.edge_base.specs.declared.expression.Expr.TheFolds.{fold-Expr}
 use Rattle.edge_base.specs.Address.{addr_text}
-use Rattle.edge_base.specs.Bytes.{space, quote, minus, backslash}
+use Rattle.edge_base.specs.Bytes.{space, quote, backslash}
+use Rattle.edge_base.specs.Printed.{signed, truth_word}
 
 -- the bytes of a text between its quotes
 abbrev pub escaped_text : List ℕ → List ℕ
@@ -22,14 +23,6 @@ escaped_text (byte ∷ text) = cond (byte == quote || byte == backslash) (backsl
 
 abbrev pub quoted : List ℕ → List ℕ
 quoted text = quote ∷ escaped_text text ++ quote ∷ []
-
-abbrev pub signed : ℤ → List ℕ
-signed (pos n) = decimal n
-signed (negsuc n) = minus ∷ decimal (suc n)
-
-abbrev pub truth_word : Bool → List ℕ
-truth_word true = codes "true"
-truth_word false = codes "false"
 
 abbrev pub lit_spelling : Lit → List ℕ
 lit_spelling (lit.Text text) = quoted text

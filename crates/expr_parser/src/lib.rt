@@ -22,6 +22,3 @@ pub use depth::nesting_is_depth;
 pub use grammar::{ParseFault, answers_are_unique, each_text_has_an_answer, parse};
 pub use printer::{pairs_are_needed, print, prints_are_parsed_again};
 pub use reading::{derivations_are_unique, faults_are_unique, underived_have_faults};
-
-#[cfg(test)]
-mod tests;

@@ -1,6 +1,6 @@
 ghost use Rattle.std.specs.Prelude.{◌≡◌, ◌==◌, ◌||◌, cond, [], ◌∷◌, ◌++◌, OnOk};
 ghost use Rattle.edge_base.specs.Address.{addr_text};
-ghost use Rattle.expr_parser.specs.Spelling.{escaped_text, quoted, signed, lit_spelling, order_word, item_spelling, items_spelling, test_spelling};
+ghost use Rattle.expr_parser.specs.Spelling.{escaped_text, quoted, lit_spelling, order_word, item_spelling, items_spelling, test_spelling};
 
 use edge_base::{Addr, Item, Lit, Memory, Order, Test, TextBuilder, print_addr};
 use std::alloc::Global;
@@ -33,15 +33,6 @@ pub fn push_quoted(out: &mut TextBuilder, text: &[u8]) -> Result<(), Memory>
     out.push(b"\"")
 }
 
-pub fn push_signed(out: &mut TextBuilder, n: i64) -> Result<(), Memory>
-    ensures { OnOk result (out.new ≡ out.old ++ signed n) }
-{
-    if n < 0 {
-        out.push(b"-")?;
-    }
-    out.push_number(n.unsigned_abs())
-}
-
 fn push_addr(alloc: Global, out: &mut TextBuilder, addr: Addr) -> Result<(), Memory>
     ensures { OnOk result (out.new ≡ out.old ++ addr_text addr) }
 {
@@ -54,7 +45,7 @@ pub fn push_lit(alloc: Global, out: &mut TextBuilder, lit: &Lit) -> Result<(), M
 {
     match lit {
         Lit::Text(text) => push_quoted(out, text.bytes()),
-        Lit::Num(number) => push_signed(out, *number),
+        Lit::Num(number) => out.push_signed(*number),
         Lit::Addr(addr) => push_addr(alloc, out, *addr),
         Lit::Bool(true) => out.push(b"true"),
         Lit::Bool(false) => out.push(b"false"),
@@ -80,9 +71,9 @@ fn push_item(alloc: Global, out: &mut TextBuilder, item: &Item) -> Result<(), Me
     match item {
         Item::One(lit) => push_lit(alloc, out, lit),
         Item::Nums(first, last) => {
-            push_signed(out, *first)?;
+            out.push_signed(*first)?;
             out.push(b"..")?;
-            push_signed(out, *last)
+            out.push_signed(*last)
         }
         Item::Addrs(first, last) => {
             push_addr(alloc, out, *first)?;

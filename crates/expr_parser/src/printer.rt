@@ -3,7 +3,7 @@ ghost use Rattle.expr_parser.specs.Spelling.{joined, call_spelling, chain_spelli
 ghost use Rattle.expr_parser.specs.Reread.{IsReadAgain, SpellingsAreParsedAgain, PairsAreNeeded};
 
 use crate::grammar::answers_are_unique;
-use crate::phrases::{push_lit, push_quoted, push_signed, push_test};
+use crate::phrases::{push_lit, push_quoted, push_test};
 use edge_base::{Expr, Memory, Text, TextBuilder, address_is_unique};
 use expr_lexer::cuts_are_unique;
 use std::alloc::Global;
@@ -72,7 +72,7 @@ fn push_expr(alloc: Global, out: &mut TextBuilder, expr: &Expr, tightness: u8) -
         Expr::At(of, at) => {
             push_expr(alloc, out, of.get(), 3)?;
             out.push(b"[")?;
-            push_signed(out, *at)?;
+            out.push_signed(*at)?;
             out.push(b"]")
         }
         Expr::Key(of, key) => {

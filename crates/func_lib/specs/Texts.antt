@@ -4,7 +4,7 @@ use Rattle.std.specs.List.{list_any, between, concat, starts_with, ends_with}
 use Rattle.std.specs.Option.{option_map, option_or}
 use Rattle.std.specs.Str.{str_to_ascii_lowercase, str_to_ascii_uppercase}
 use Rattle.edge_base.specs.Address.{addr_text}
-use Rattle.edge_base.specs.Bytes.{minus}
+use Rattle.edge_base.specs.Printed.{signed, truth_word}
 use Rattle.edge_fields.specs.declared.value.Value.{Value, out-Value}
 use Rattle.edge_fields.specs.declared.value.Value.TheOpen as open_value
 use Rattle.edge_fields.specs.declared.value.Value.TheVariants as value
@@ -58,16 +58,6 @@ starts_with_of vs = option_map (λ args. value.Bool (starts_with nat_eq args.0 a
 -- ends_with: whether the second text is an end of the first
 abbrev pub ends_with_of : List Value → Option Value
 ends_with_of vs = option_map (λ args. value.Bool (ends_with nat_eq args.0 args.1)) (two_texts vs)
-
--- a number in decimal, with `-` before a negative one
-abbrev pub signed : ℤ → List ℕ
-signed (pos n) = decimal n
-signed (negsuc n) = minus ∷ decimal (suc n)
-
--- a truth value as a word
-abbrev pub truth_word : Bool → List ℕ
-truth_word true = codes "true"
-truth_word false = codes "false"
 
 abbrev pub string_in : open_value.Value-F Value → Option (List ℕ)
 string_in (open_value.Text text) = None

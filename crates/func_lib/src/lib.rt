@@ -12,6 +12,3 @@ mod url;
 
 pub use functions::{call, functions_keep_kinds};
 pub use replacing::takes_are_first;
-
-#[cfg(test)]
-mod tests;

@@ -4,7 +4,8 @@ ghost use Rattle.std.specs.List.{concat};
 ghost use Rattle.std.specs.Option.{option_map};
 ghost use Rattle.std.specs.Str.{str_to_ascii_lowercase, str_to_ascii_uppercase};
 ghost use Rattle.func_lib.specs.Texts.{lower_of, upper_of, place_in, end_in, part_of, text_and_places, substring_of, without, remove_bytes_of};
-ghost use Rattle.func_lib.specs.Texts.{starts_with_of, ends_with_of, signed, truth_word, string_of, behind, to_string_of, written_of, concat_of};
+ghost use Rattle.func_lib.specs.Texts.{starts_with_of, ends_with_of, string_of, behind, to_string_of, written_of, concat_of};
+ghost use Rattle.edge_base.specs.Printed.{signed, truth_word};
 ghost use Rattle.func_lib.specs.Arguments.{all_of};
 
 use crate::arguments::{one_text, only_of, optional_number, two_or_three, two_texts};
@@ -144,16 +145,6 @@ pub(crate) fn ends_with(args: &[Value]) -> Option<Value>
     Some(Value::Bool(text.ends_with(end)))
 }
 
-/// Writes a number in decimal.
-fn push_signed(text: &mut TextBuilder, number: i64) -> Result<(), Memory>
-    ensures { OnOk result (text.new ≡ text.old ++ signed number) }
-{
-    if number < 0 {
-        text.push(b"-")?;
-    }
-    text.push_number(number.unsigned_abs())
-}
-
 /// A truth value as a word.
 fn truth_word(truth: bool) -> &'static [u8]
     ensures { result.now ≡ truth_word truth }
@@ -166,7 +157,7 @@ fn push_string(alloc: Global, text: &mut TextBuilder, value: &Value) -> Result<O
     ensures { IfOk result (λ found. option_map (λ _. text.new) found ≡ behind text.old (string_of value.now)) }
 {
     match value {
-        Value::Num(number) => push_signed(text, *number)?,
+        Value::Num(number) => text.push_signed(*number)?,
         Value::Addr(addr) => text.push(print_addr(alloc, *addr)?.bytes())?,
         Value::Bool(truth) => text.push(truth_word(*truth))?,
         Value::Text(_) | Value::Array(_) | Value::Map(_) => return Ok(None),

@@ -8,8 +8,6 @@ mod reading;
 mod replacement;
 mod sharing;
 mod splitting;
-#[cfg(test)]
-mod tests;
 mod wildcard;
 
 pub use pattern::{Pattern, PatternFault};

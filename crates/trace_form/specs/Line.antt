@@ -2,8 +2,8 @@
 use Rattle.std.specs.Prelude.{ℕ, List, [], ◌∷◌, ◌++◌, codes, decimal, Option, Some, None}
 use Rattle.edge_base.specs.Printed.{escaped}
 use Rattle.edge_base.specs.declared.rule_name.RuleName.{RuleName}
-use Rattle.trace_form.specs.declared.verdict.VerdictKind.{VerdictKind}
-use Rattle.trace_form.specs.declared.verdict.VerdictKind.TheVariants as kind
+use Rattle.ruleset_model.specs.declared.verdict.VerdictKind.{VerdictKind}
+use Rattle.ruleset_model.specs.declared.verdict.VerdictKind.TheVariants as kind
 use Rattle.trace_form.specs.declared.refusal.BadCause.{BadCause}
 use Rattle.trace_form.specs.declared.refusal.BadCause.TheVariants as cause
 use Rattle.trace_form.specs.declared.output.LineParts.{LineParts}

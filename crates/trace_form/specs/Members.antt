@@ -1,10 +1,10 @@
 -- What an object of a line has: its members, and the texts and tokens among them.
-use Rattle.std.specs.Prelude.{ℕ, Bool, false, ◌&&◌, ◌||◌, ◌==◌, nat_lt, List, length, codes, Option, option_and_then}
+use Rattle.std.specs.Prelude.{ℕ, Bool, false, ◌&&◌, ◌==◌, nat_lt, List, length, Option, option_and_then}
 use Rattle.std.specs.Option.{option_map_or}
-use Rattle.std.specs.List.{list_any, list_all}
-use Rattle.std.specs.Char.{is_ascii_alphanumeric}
+use Rattle.std.specs.List.{list_all}
 use Rattle.serde_json.specs.Data.{Data}
 use Rattle.serde_json.specs.Find.{get, as_str, as_array, as_object}
+use Rattle.ruleset_model.specs.Forms.{is_token_byte}
 use Rattle.serde_json.specs.Events.{items_len, members_len}
 
 -- the value is an object of so many members
@@ -18,10 +18,6 @@ has_items count value = option_map_or (λ items. items_len items == count) (as_a
 -- the text of a member
 abbrev pub text_of : List ℕ → Data → Option (List ℕ)
 text_of name value = option_and_then as_str (get name value)
-
--- a byte of a token (RFC 9110): a letter, a digit or one of fifteen marks
-abbrev pub is_token_byte : ℕ → Bool
-is_token_byte byte = is_ascii_alphanumeric byte || list_any (λ mark. mark == byte) (codes "!#$%&'*+-.^_`|~")
 
 -- a token: one such byte or more
 abbrev pub is_token : List ℕ → Bool

@@ -11,7 +11,6 @@ mod reader;
 mod refusal;
 mod request;
 mod told;
-mod verdict;
 
 pub use item::{LineItem, Recorded};
 pub use laws::{causes_are_unique, items_have_no_cause};
@@ -19,7 +18,6 @@ pub use members::{has_members, text_of};
 pub use output::{LineParts, line_of, push_bad_line, push_deploy_line, push_line};
 pub use reader::read_item;
 pub use refusal::{BadCause, LineFault};
-pub use verdict::{Response, Verdict, VerdictKind};
 
 #[cfg(test)]
 mod tests;

@@ -3,7 +3,8 @@ ghost use Rattle.std.specs.List.{list_all};
 ghost use Rattle.serde_json.specs.Events.{items_len};
 ghost use Rattle.serde_json.specs.View.{view, items_view};
 ghost use Rattle.serde_json.specs.Find.{get, as_str, as_array};
-ghost use Rattle.trace_form.specs.Members.{has_members, text_of, is_token_byte, is_token};
+ghost use Rattle.ruleset_model.specs.Forms.{is_token_byte};
+ghost use Rattle.trace_form.specs.Members.{has_members, text_of, is_token};
 
 use serde_json::Value;
 

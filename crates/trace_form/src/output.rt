@@ -3,8 +3,8 @@ ghost use Rattle.std.specs.Io.{StartsWith};
 ghost use Rattle.trace_form.specs.Line.{rule_text, ending_text, names_text, noted_text, kind_text, location_text, judged_text, line, deploy_line, bad_line};
 
 use crate::refusal::BadCause;
-use crate::verdict::{Verdict, VerdictKind};
 use edge_base::{Memory, Request, RuleName, Text, TextBuilder};
+use ruleset_model::{Verdict, VerdictKind};
 use std::alloc::Global;
 
 /// What the line of a judged request tells.

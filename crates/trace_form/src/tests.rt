@@ -1,10 +1,10 @@
 use crate::{
-    BadCause, LineFault, LineItem, LineParts, Response, Verdict, VerdictKind, line_of,
-    push_bad_line, push_deploy_line, read_item,
+    BadCause, LineFault, LineItem, LineParts, line_of, push_bad_line, push_deploy_line, read_item,
 };
 use edge_base::{
     Addr, Header, Headers, Memory, Moment, Request, RuleName, RuleNames, Text, TextBuilder,
 };
+use ruleset_model::{Response, Verdict, VerdictKind};
 use std::alloc::Global;
 use std::test::Fail;
 

@@ -22,6 +22,3 @@ pub use node::{BuiltTest, Node, Nodes};
 pub use shared::typed_may_be_shared;
 pub use typed::Typed;
 pub use wildcard::Wildcard;
-
-#[cfg(test)]
-mod tests;

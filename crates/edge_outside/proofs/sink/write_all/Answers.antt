@@ -10,5 +10,6 @@ loop-at-preserved g c =
     let took = rw take_rest at c.in_ok-at.ensures.bytes in record {
       in_range = omega (arith, simp (take_rest, length-drop) at c.in_ok-at.ensures.bound);
       got = rw (take-add c.loop-at.at c.in_ok-at.field-0 bytes) (Appends-trans _ _ _ _ _ c.loop-at.invariant.got took);
+      stays = c.in_ok-at.ensures.stays ∙ c.loop-at.invariant.stays;
       kept = c.in_ok-at.ensures.kept ∙ c.loop-at.invariant.kept;
     }

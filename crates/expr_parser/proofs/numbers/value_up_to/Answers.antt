@@ -6,7 +6,8 @@ use Rattle.std.specs.Str.Parse.{digits_value_after}
 use Rattle.std.proofs.lemmas.Bool.{and_parts}
 use Rattle.std.proofs.lemmas.Bool.Decides.{nat_tests}
 use Rattle.edge_base.specs.Token.{is_digit}
-use Rattle.expr_lexer.proofs.StateLemmas.{digit_is, digits_grow}
+use Rattle.edge_base.proofs.DigitLemmas.{digits_grow}
+use Rattle.expr_lexer.proofs.StateLemmas.{digit_is}
 use Rattle.expr_parser.proofs.numbers.value_up_to.Goals as goal
 
 over : (w most : ℕ) → most < w → None ≡ cond (nat_le w most) (Some w) None

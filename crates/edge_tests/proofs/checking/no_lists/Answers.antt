@@ -1,7 +1,7 @@
 use Rattle.std.proofs.Common.{[], refl, subst, sym}
 use Rattle.std.specs.List.{IsDistinct}
 use Rattle.edge_fields.specs.Schemes.{AreLists}
-use Rattle.type_check.proofs.tests.no_lists.Goals as goal
+use Rattle.edge_tests.proofs.checking.no_lists.Goals as goal
 
 none : AreLists []
 unfolding IsDistinct

@@ -1,10 +1,10 @@
-use crate::{
-    Pattern, PatternFault, Wild, WildFault, fill, patterns_are_shared, wildcards_are_shared,
-};
 use edge_base::{Memory, Text, TextBuilder};
 use std::alloc::Global;
 use std::process::Abort;
 use std::test::Fail;
+use text_match::{
+    Pattern, PatternFault, Wild, WildFault, fill, patterns_are_shared, wildcards_are_shared,
+};
 
 /// What the stars of a wildcard stand for, each in brackets, or why there is nothing to show.
 fn takes_of(alloc: Global, pattern: &str, text: &str, strict: bool) -> Result<Text, Memory> {

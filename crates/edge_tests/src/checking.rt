@@ -1,11 +1,11 @@
 ghost use Rattle.edge_fields.specs.Schemes.{AreLists};
 
-use crate::{Place, TypeCause, TypeFault, check};
 use edge_base::{Addr, Expr, Item, Lit, Memory, Order, Test, Text};
 use edge_fields::{ListKinds, Scheme};
 use sqlite_items::{Boxed, Items};
 use std::alloc::Global;
 use std::test::Fail;
+use type_check::{Place, TypeCause, TypeFault, check};
 
 fn no_lists(alloc: Global) -> ListKinds
     ensures { AreLists result }

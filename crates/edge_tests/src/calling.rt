@@ -1,6 +1,6 @@
-use crate::call;
 use edge_base::{Addr, Memory, Text, TextBuilder, print_addr};
 use edge_fields::{FunctionId, TextMap, Value, Values, function_named};
+use func_lib::call;
 use serde_json::Value as Json;
 use sqlite_items::Items;
 use std::alloc::Global;

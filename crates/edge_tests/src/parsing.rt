@@ -1,4 +1,4 @@
-use crate::{ParseFault, parse, print};
+use expr_parser::{ParseFault, parse, print};
 use std::alloc::Global;
 use std::process::Abort;
 use std::test::Fail;
