@@ -5,10 +5,11 @@ ghost use Rattle.rate_plain.specs.Hash.{fnv1a64_of};
 use crate::hash::{fnv1a64, fnv1a64_on};
 use edge_base::{Memory, RuleName, Text};
 use std::alloc::Global;
+use std::hash::{Hash, Hasher};
 use std::marker::Model;
 
 /// What a limit counts by. Period and timeout are in milliseconds, at most a day.
-#[derive(Debug, PartialEq, Eq, Hash, Drop)]
+#[derive(Debug, PartialEq, Eq, Drop)]
 pub struct Key {
     pub rule: RuleName,
     pub period: u64,
@@ -28,6 +29,25 @@ impl Model for Key {
     ghost invariant = { λ k. HasRanges k.period k.threshold k.timeout };
 
     ghost inverse = { λ k. record { rule = k.rule; period = k.period; threshold = k.threshold; timeout = k.timeout; values = k.values } };
+}
+
+/// Of the rule its id alone, by a hash that is quick: the operator chose it. Values are a client's, and go to the keyed
+/// hasher as they are.
+impl Hash for Key {
+    ghost use Rattle.std.specs.Prelude.{[], ◌∷◌, ◌++◌};
+    ghost use Rattle.std.specs.Hash as fed;
+    ghost use Rattle.std.proofs.Common.{rules};
+    ghost use Rattle.std.specs.Cmp.Rules.{hashing};
+    ghost use Rattle.rate_plain.specs.Hash.{fnv1a64_of};
+
+    ghost hash_input = { λ k. fed.u64 (fnv1a64_of k.rule.rule) ++ k.values ∷ [] };
+
+    ghost respects_eq = { Prim.search (hashing, rules) };
+
+    fn hash<H: Hasher>(&self, state: &mut H) {
+        state.write_u64(fnv1a64(self.rule.rule.bytes()));
+        state.write(self.values.bytes());
+    }
 }
 
 impl Key {
