@@ -59,10 +59,10 @@ put_in_force s deployed =
     answered_as (deployment (s.version + 1) deployed) s
     (record s { lines = s.lines + 1; version = s.version + 1; deployed = deployed })
 
--- a request, judged by the version in force
+-- a request, judged by the version in force: no rule changes its headers, and nothing is counted
 abbrev pub judged_parts : RunState → Request → LineParts
 judged_parts s asked =
-    record { number = s.requests + 1; version = s.version; verdict = verdict_of s.deployed asked; request = asked }
+    record { number = s.requests + 1; version = s.version; verdict = verdict_of s.deployed asked; request = asked; came = asked.headers; counts = []; reply = None }
 
 abbrev pub judged : RunState → Request → Answered
 judged s asked =

@@ -8,8 +8,9 @@ use crate::condition::deployed_by;
 use crate::judging::verdict_of;
 use crate::rule::Deployed;
 use crate::statuses::Status;
-use edge_base::{Memory, Request, TextBuilder};
+use edge_base::{Memory, Request, TextBuilder, copy_headers};
 use list_store::{ListParts, Lists};
+use rate_plain::Counts;
 use serde_json::Value;
 use std::alloc::Global;
 use std::marker::Model;
@@ -139,11 +140,15 @@ impl Run {
         requires { self.old.lines < 2 ^ 40 }
         ensures { OnOk result (Came (judged self.old request) answer.new self.new) }
     {
+        let came = copy_headers(alloc, request.headers.as_slice())?;
         let parts = LineParts {
             number: self.requests + 1,
             version: self.version,
             verdict: verdict_of(alloc, &self.deployed, &request, &self.lists)?,
             request,
+            came,
+            counts: Counts::new(alloc),
+            reply: None,
         };
         answer.clear();
         push_line(answer, &parts)?;

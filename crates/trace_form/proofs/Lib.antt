@@ -1,2 +1,3 @@
+pub mod ChangedLemmas
 pub mod ItemLemmas
 pub mod PairLemmas

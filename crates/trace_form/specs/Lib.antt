@@ -4,3 +4,4 @@ pub mod Item
 pub mod Line
 pub mod Found
 pub mod Apart
+pub mod Changed

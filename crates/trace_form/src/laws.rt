@@ -1,4 +1,5 @@
 ghost use Rattle.trace_form.specs.Apart.{ItemsHaveNoCause, CausesAreUnique};
+ghost use Rattle.trace_form.specs.Changed.{ChangeIsADifference};
 
 /// A law: an item has no cause why it is none.
 pub fn items_have_no_cause()
@@ -8,4 +9,9 @@ pub fn items_have_no_cause()
 /// A law: what is no item is none for one cause.
 pub fn causes_are_unique()
     ensures { CausesAreUnique }
+{}
+
+/// A law: headers count as changed exactly where they differ.
+pub fn change_is_a_difference()
+    ensures { ChangeIsADifference }
 {}

@@ -2,6 +2,7 @@
 //! written.
 #![tactic(auto)]
 
+mod changed;
 mod headers;
 mod item;
 mod laws;
@@ -10,10 +11,11 @@ mod output;
 mod reader;
 mod refusal;
 mod request;
+mod steps;
 mod told;
 
 pub use item::{LineItem, Recorded};
-pub use laws::{causes_are_unique, items_have_no_cause};
+pub use laws::{causes_are_unique, change_is_a_difference, items_have_no_cause};
 pub use members::{has_members, text_of};
 pub use output::{LineParts, line_of, push_bad_line, push_deploy_line, push_line};
 pub use reader::read_item;

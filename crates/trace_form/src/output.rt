@@ -1,9 +1,13 @@
 ghost use Rattle.std.specs.Prelude.{◌≡◌, ◌++◌, IfOk, OnOk, OnErr};
 ghost use Rattle.std.specs.Io.{StartsWith};
-ghost use Rattle.trace_form.specs.Line.{rule_text, ending_text, names_text, noted_text, kind_text, location_text, judged_text, line, deploy_line, bad_line};
+ghost use Rattle.trace_form.specs.Line.{rule_text, ending_text, names_text, noted_text, kind_text, location_text, judged_text, further_text, line};
+ghost use Rattle.trace_form.specs.Line.{deploy_line, bad_line};
 
+use crate::changed::{push_reply, push_request};
 use crate::refusal::BadCause;
-use edge_base::{Memory, Request, RuleName, Text, TextBuilder};
+use crate::steps::push_counts;
+use edge_base::{Headers, Memory, Request, RuleName, Text, TextBuilder};
+use rate_plain::Counts;
 use ruleset_model::{Verdict, VerdictKind};
 use std::alloc::Global;
 
@@ -17,6 +21,12 @@ pub struct LineParts {
     pub verdict: Verdict,
     /// The request as rules have rewritten it.
     pub request: Request,
+    /// The headers with which it came.
+    pub came: Headers,
+    /// The steps, in order; those of the reply are the last.
+    pub counts: Counts,
+    /// The headers of the reply before and after rules have rewritten them, where there is a reply.
+    pub reply: Option<(Headers, Headers)>,
 }
 
 /// The kind of a verdict, with its status.
@@ -117,6 +127,18 @@ fn push_judged(out: &mut TextBuilder, parts: &LineParts) -> Result<(), Memory>
     out.push_escaped(parts.request.target.bytes())
 }
 
+/// What stands behind the steps, where it applies.
+#[tactic(auto, unfolding(crate::specs::Line::further_text))]
+fn push_further(out: &mut TextBuilder, parts: &LineParts) -> Result<(), Memory>
+    ensures ok { OnOk result (out.new ≡ out.old ++ further_text parts.now) }
+    ensures err { OnErr result (StartsWith out.new out.old) }
+{
+    push_noted(out, parts.verdict.noted.as_slice())?;
+    push_location(out, &parts.verdict.kind)?;
+    push_request(out, parts.came.as_slice(), parts.request.headers.as_slice())?;
+    push_reply(out, &parts.reply)
+}
+
 /// Writes the line of a judged request.
 #[tactic(auto, unfolding(crate::specs::Line::line))]
 pub fn push_line(out: &mut TextBuilder, parts: &LineParts) -> Result<(), Memory>
@@ -124,9 +146,9 @@ pub fn push_line(out: &mut TextBuilder, parts: &LineParts) -> Result<(), Memory>
     ensures err { OnErr result (StartsWith out.new out.old) }
 {
     push_judged(out, parts)?;
-    out.push(b" -")?;
-    push_noted(out, parts.verdict.noted.as_slice())?;
-    push_location(out, &parts.verdict.kind)?;
+    out.push(b" ")?;
+    push_counts(out, parts.counts.as_slice())?;
+    push_further(out, parts)?;
     out.push(b"\n")
 }
 

@@ -1,11 +1,7 @@
-use crate::{
-    BadCause, LineFault, LineItem, LineParts, line_of, push_bad_line, push_deploy_line, read_item,
-};
-use edge_base::{
-    Addr, Header, Headers, Memory, Moment, Request, RuleName, RuleNames, Text, TextBuilder,
-};
-use ruleset_model::{Response, Verdict, VerdictKind};
-use std::alloc::Global;
+mod lines;
+
+use crate::{BadCause, LineFault, LineItem, push_bad_line, push_deploy_line, read_item};
+use edge_base::{Addr, Header, Request, TextBuilder};
 use std::test::Fail;
 
 /// A line, and what it is or why it is no item.
@@ -171,112 +167,6 @@ fn a_request_is_read_whole(rt: HostRuntime) {
         r#"{"at":0,"ip":"10.0.0.1","method":"GET","target":"/admin","headers":[["host","a.example"]]}"#;
     let read = read_item(rt.alloc(), line.as_bytes());
     assert!(rt; is_first(&read));
-}
-
-/// A verdict, the rules that were noted, the target, and the line that is written.
-type Answer = (
-    &'static str,
-    &'static [&'static str],
-    &'static str,
-    &'static str,
-);
-
-const ANSWERS: [Answer; 4] = [
-    ("pass", &[], "/a b%,\x7f", "1 v1 pass - /a%20b%25%2C%7F -\n"),
-    ("block", &[], "/admin", "1 v1 block:403 fw/r1 /admin -\n"),
-    (
-        "challenge",
-        &["a1", "z1"],
-        "/",
-        "1 v1 challenge fw/r1 / - log=fw/a1,fw/z1\n",
-    ),
-    (
-        "redirect",
-        &[],
-        "/old?k=1",
-        "1 v1 redirect:301 fw/r1 /old?k=1 - to=https://b.example/new?k=1\n",
-    ),
-];
-
-fn name(alloc: Global, rule: &str) -> Result<RuleName, Memory> {
-    Ok(RuleName {
-        set_id: Text::of(alloc, b"fw")?,
-        rule: Text::of(alloc, rule.as_bytes())?,
-    })
-}
-
-fn names(alloc: Global, rules: &[&str]) -> Result<RuleNames, Memory> {
-    let mut names = RuleNames::new(alloc);
-    for rule in rules {
-        names.push(name(alloc, rule)?)?;
-    }
-    Ok(names)
-}
-
-fn response(alloc: Global) -> Result<Response, Memory> {
-    Ok(Response {
-        status_code: 403,
-        content: Text::of(alloc, b"blocked\n")?,
-        content_type: Text::of(alloc, b"text/plain")?,
-    })
-}
-
-fn kind_of(alloc: Global, kind: &str) -> Result<VerdictKind, Memory> {
-    match kind {
-        "block" => Ok(VerdictKind::Block(response(alloc)?)),
-        "challenge" => Ok(VerdictKind::Challenge),
-        "redirect" => Ok(VerdictKind::Redirect {
-            status: 301,
-            target: Text::of(alloc, b"https://b.example/new?k=1")?,
-        }),
-        _ => Ok(VerdictKind::Pass),
-    }
-}
-
-fn rule_of(alloc: Global, kind: &str) -> Result<Option<RuleName>, Memory> {
-    if kind == "pass" {
-        Ok(None)
-    } else {
-        Ok(Some(name(alloc, "r1")?))
-    }
-}
-
-fn verdict_of(alloc: Global, kind: &str, noted: &[&str]) -> Result<Verdict, Memory> {
-    let verdict = Verdict {
-        kind: kind_of(alloc, kind)?,
-        rule: rule_of(alloc, kind)?,
-        noted: names(alloc, noted)?,
-    };
-    verdict.copy(alloc)
-}
-
-fn request_for(alloc: Global, target: &str) -> Result<Request, Memory> {
-    Ok(Request {
-        at: Moment::of(0).ok_or(Memory)?,
-        from: Addr::V4(0),
-        ssl: false,
-        method: Text::of(alloc, b"GET")?,
-        target: Text::of(alloc, target.as_bytes())?,
-        minor: 1,
-        headers: Headers::new(alloc),
-        body: Text::of(alloc, b"")?,
-    })
-}
-
-#[test]
-fn requests_are_answered(rt: HostRuntime) -> Result<(), Fail> {
-    let alloc = rt.alloc();
-    for (kind, noted, target, line) in &ANSWERS {
-        let parts = LineParts {
-            number: 1,
-            version: 1,
-            verdict: verdict_of(alloc, kind, noted)?,
-            request: request_for(alloc, target)?,
-        };
-        let text = line_of(alloc, &parts)?;
-        assert_eq!(rt; text.bytes(), line.as_bytes());
-    }
-    Ok(())
 }
 
 #[test]
