@@ -1,10 +1,10 @@
 -- Each input has an output, and one without patterns has one run, and so one output.
 use Rattle.std.proofs.Common.{◌≡◌, ℕ, List, [], ◌∷◌, ◌++◌, ◌⊎◌, refl, sym, ap, subst, ◌∙◌, inl, inr, append_assoc}
 use Rattle.serde_json.specs.Data.{Data}
-use Rattle.edge_base.specs.declared.message.Request.{Request}
 use Rattle.edge_outside.specs.Lines.{lines_of}
 use Rattle.expr_parser.specs.Parsed.{AnswersAreUnique}
 use Rattle.trace_form.specs.Item.{IsBlank, IsDeploy, IsAsk}
+use Rattle.trace_form.specs.declared.item.Recorded.{Recorded}
 use Rattle.trace_form.specs.declared.refusal.BadCause.{BadCause}
 use Rattle.trace_form.specs.declared.refusal.BadCause.TheVariants as cause
 use Rattle.trace_form.proofs.ItemLemmas.{IsDeploy-unique, IsAsk-unique, IsNoItem-unique, blank-not_deploy, blank-not_ask, blank-not_no_item, deploy-not_ask, deploy-not_no_item, ask-not_no_item, Kind, kind-found}
@@ -23,7 +23,7 @@ kind_goes s given (kind.deploy value h) = of_value (found-taken value) where
   of_value : ((deployed : InForce) × IsTaken value deployed) ⊎ IsNotTaken value → (this : Answered) × IsAnswered s given this
   of_value (inl (deployed, taken)) = (put_in_force s deployed, answered.deployment value deployed h taken refl)
   of_value (inr none) = (refused s cause.Unsupported, answered.bad cause.Unsupported (inr (value, h, none, refl)) refl)
-kind_goes s given (kind.ask request h) = (judged s request, answered.request request h refl)
+kind_goes s given (kind.ask recorded h) = (judged s recorded.request, answered.request recorded h refl)
 kind_goes s given (kind.no_item why h) = (refused s why, answered.bad why (inl h) refl)
 
 -- some run over these lines
@@ -63,9 +63,9 @@ blank-not_bad : (given : List ℕ) (why : BadCause) → IsBlank given → ¬ (Is
 blank-not_bad given why blank (inl none) = blank-not_no_item given why blank none
 blank-not_bad given why blank (inr (value, h, e, w)) = blank-not_deploy given value blank h
 
-ask-not_bad : (given : List ℕ) (request : Request) (why : BadCause) → IsAsk given request → ¬ (IsBad given why)
-ask-not_bad given request why ask (inl none) = ask-not_no_item given request why ask none
-ask-not_bad given request why ask (inr (value, h, e, w)) = deploy-not_ask given value request h ask
+ask-not_bad : (given : List ℕ) (recorded : Recorded) (why : BadCause) → IsAsk given recorded → ¬ (IsBad given why)
+ask-not_bad given recorded why ask (inl none) = ask-not_no_item given recorded why ask none
+ask-not_bad given recorded why ask (inr (value, h, e, w)) = deploy-not_ask given value recorded h ask
 
 IsBad-unique : (given : List ℕ) (a b : BadCause) → IsBad given a → IsBad given b → a ≡ b
 IsBad-unique given a b (inl none) (inl none') = IsNoItem-unique given a b none none'
@@ -103,7 +103,7 @@ module _ (unique : AnswersAreUnique) where
   answered_unique s given a b plain (answered.request asked h p) (answered.bad why g q) = absurd (ask-not_bad given asked why h g)
   answered_unique s given a b plain (answered.request asked h p) (answered.deployment value deployed g e q) = absurd (deploy-not_ask given value asked g h)
   answered_unique s given a b plain (answered.request asked h p) (answered.request other g q) =
-      p ∙ ap (judged s) (IsAsk-unique given asked other h g) ∙ sym q
+      p ∙ ap (λ r. judged s r.request) (IsAsk-unique given asked other h g) ∙ sym q
 
   runs_unique : (from : RunState) (lines : List (List ℕ)) (a b : List Answered) (x y : RunState) → IsWithoutPatterns lines
       → IsRun from lines a x → IsRun from lines b y → (a ≡ b) × (x ≡ y)

@@ -2,9 +2,9 @@
 -- has come.
 use Rattle.std.specs.Prelude.{◌≡◌, ℕ, ◌⊎◌, List, [], ◌∷◌, ◌++◌, ⊤}
 use Rattle.serde_json.specs.Data.{Data}
-use Rattle.edge_base.specs.declared.message.Request.{Request}
 use Rattle.edge_outside.specs.Lines.{lines_of}
 use Rattle.trace_form.specs.Item.{IsBlank, IsDeploy, IsAsk, IsNoItem}
+use Rattle.trace_form.specs.declared.item.Recorded.{Recorded}
 use Rattle.trace_form.specs.declared.refusal.BadCause.{BadCause}
 use Rattle.trace_form.specs.declared.refusal.BadCause.TheVariants as cause
 use Rattle.edge_main.specs.InForce.{InForce, IsTaken, IsNotTaken, HasNoPatterns}
@@ -15,13 +15,14 @@ abbrev pub IsBad : List ℕ → BadCause → Type 0
 IsBad given why =
     IsNoItem given why ⊎ ((value : Data) × IsDeploy given value × IsNotTaken value × (why ≡ cause.Unsupported))
 
--- the answer to a line of the input, where the run has come so far
+-- the answer to a line of the input, where the run has come so far; no rule speaks of replies, so a recorded one changes
+-- nothing
 pub data IsAnswered (s : RunState) (given : List ℕ) (answered : Answered) : Type 0 where
   blank : IsBlank given → answered ≡ passed_by s → IsAnswered s given answered
   bad : (why : BadCause) → IsBad given why → answered ≡ refused s why → IsAnswered s given answered
   deployment : (value : Data) (deployed : InForce) → IsDeploy given value → IsTaken value deployed
       → answered ≡ put_in_force s deployed → IsAnswered s given answered
-  request : (asked : Request) → IsAsk given asked → answered ≡ judged s asked → IsAnswered s given answered
+  request : (recorded : Recorded) → IsAsk given recorded → answered ≡ judged s recorded.request → IsAnswered s given answered
 
 -- these lines, in order, are answered so, from one state to another
 abbrev pub IsRun : RunState → List (List ℕ) → List Answered → RunState → Type 0

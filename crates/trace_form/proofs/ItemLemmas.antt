@@ -14,15 +14,17 @@ use Rattle.serde_json.specs.Read.{read}
 use Rattle.serde_json.specs.Find.{get, as_str}
 use Rattle.edge_base.specs.declared.message.Header.{Header}
 use Rattle.edge_base.specs.declared.message.Request.{Request}
+use Rattle.edge_base.specs.declared.message.Reply.{Reply}
 use Rattle.edge_base.specs.declared.address.Addr.{Addr}
 use Rattle.serde_json.specs.View.{view}
+use Rattle.trace_form.specs.declared.item.Recorded.{Recorded}
 use Rattle.trace_form.specs.declared.item.LineItem.TheVariants as lineitem
 use Rattle.trace_form.specs.declared.refusal.BadCause.{BadCause}
 use Rattle.trace_form.specs.declared.refusal.BadCause.TheVariants as cause
 use Rattle.trace_form.specs.declared.refusal.LineFault.{LineFault}
 use Rattle.trace_form.specs.declared.refusal.LineFault.TheVariants as fault
 use Rattle.trace_form.specs.Members.{text_of}
-use Rattle.trace_form.specs.Asked.{moment_of, IsPeer, member_or, ssl_of, minor_in, minor_of, method_of, target_of, headers_of, Told, IsTold, IsShapeless, IsRequest, IsNoRequest}
+use Rattle.trace_form.specs.Asked.{moment_of, IsPeer, member_or, ssl_of, minor_in, minor_of, method_of, target_of, headers_of, reply_of, ToldReply, Told, IsTold, IsToldWith, has_moments, IsRequest, told_reply, IsRecorded, IsNoRequest}
 use Rattle.trace_form.specs.Asked as asked
 use Rattle.trace_form.specs.Apart.{ItemsHaveNoCause}
 use Rattle.trace_form.specs.Item.{is_short, is_blank, IsJson, IsSolid, has_more, deployed_of, IsBlank, IsDeploy, IsAsking, IsAsk, IsNoItem, IsNoValueItem, SaysWhy}
@@ -37,21 +39,21 @@ deployed-of_line : (line : List ℕ) (value deployed : Data) → IsJson line val
 deployed-of_line line value deployed json d =
     subst (λ v. deployed_of v ≡ Some deployed) (json-unique line d.value value d.json json) d.deploy
 
-request-of_line : (line : List ℕ) (value : Data) (request : Request) → IsJson line value → IsAsk line request → IsAsking value × IsRequest value request
-request-of_line line value request json a =
-    subst (λ v. IsAsking v × IsRequest v request) (json-unique line a.value value a.json json) (a.asking, a.ask)
+request-of_line : (line : List ℕ) (value : Data) (recorded : Recorded) → IsJson line value → IsAsk line recorded → IsAsking value × IsRecorded value recorded
+request-of_line line value recorded json a =
+    subst (λ v. IsAsking v × IsRecorded v recorded) (json-unique line a.value value a.json json) (a.asking, a.ask)
 
 -- ---- at most one kind, and one value
 
 pub blank-not_deploy : (line : List ℕ) (deployed : Data) → IsBlank line → ¬ (IsDeploy line deployed)
 blank-not_deploy line deployed blank d = both_ways (is_blank line) d.solid.1 blank.1
 
-pub blank-not_ask : (line : List ℕ) (request : Request) → IsBlank line → ¬ (IsAsk line request)
-blank-not_ask line request blank a = both_ways (is_blank line) a.solid.1 blank.1
+pub blank-not_ask : (line : List ℕ) (recorded : Recorded) → IsBlank line → ¬ (IsAsk line recorded)
+blank-not_ask line recorded blank a = both_ways (is_blank line) a.solid.1 blank.1
 
-pub deploy-not_ask : (line : List ℕ) (deployed : Data) (request : Request) → IsDeploy line deployed → ¬ (IsAsk line request)
-deploy-not_ask line deployed request d a =
-    none-some deployed (sym ((request-of_line line d.value request d.json a).0).0 ∙ d.deploy)
+pub deploy-not_ask : (line : List ℕ) (deployed : Data) (recorded : Recorded) → IsDeploy line deployed → ¬ (IsAsk line recorded)
+deploy-not_ask line deployed recorded d a =
+    none-some deployed (sym ((request-of_line line d.value recorded d.json a).0).0 ∙ d.deploy)
 
 pub IsDeploy-unique : (line : List ℕ) (a b : Data) → IsDeploy line a → IsDeploy line b → a ≡ b
 IsDeploy-unique line a b is_a is_b = same_Some a b (sym is_a.deploy ∙ deployed-of_line line is_a.value b is_a.json is_b)
@@ -74,9 +76,27 @@ IsRequest-unique value a b is_a is_b =
     let within = is_prop→PathP (λ i. minor i ≤ 1) (λ i. le_prop) a.within b.within in
     λ i. record { at = at i; from = from i; ssl = ssl i; method = method i; target = target i; minor = minor i; headers = headers i; body = body i; within = within i }
 
-pub IsAsk-unique : (line : List ℕ) (a b : Request) → IsAsk line a → IsAsk line b → a ≡ b
+-- replies that are told alike are alike
+told_reply-apart : (a b : Option (Reply × ℕ)) → told_reply a ≡ told_reply b → a ≡ b
+told_reply-apart None None h = refl
+told_reply-apart None (Some b) h = absurd (none-some _ h)
+told_reply-apart (Some a) None h = absurd (none-some _ (sym h))
+told_reply-apart (Some a) (Some b) h =
+    let same = same_Some (a.0, Some a.1) (b.0, Some b.1) h in
+    let reply : a.0 ≡ b.0 = ap (λ r. r.0) same in
+    let at : a.1 ≡ b.1 = same_Some a.1 b.1 (ap (λ r. r.1) same) in
+    λ i. Some (reply i, at i)
+
+IsRecorded-unique : (value : Data) (a b : Recorded) → IsRecorded value a → IsRecorded value b → a ≡ b
+IsRecorded-unique value a b is_a is_b =
+    let request = IsRequest-unique value a.request b.request is_a.request is_b.request in
+    let later = ap (λ r. reply_of (Some r.at) value) request in
+    let reply = told_reply-apart a.reply b.reply (same_Some (told_reply a.reply) (told_reply b.reply) (sym is_a.reply ∙ later ∙ is_b.reply)) in
+    λ i. record { request = request i; reply = reply i }
+
+pub IsAsk-unique : (line : List ℕ) (a b : Recorded) → IsAsk line a → IsAsk line b → a ≡ b
 IsAsk-unique line a b is_a is_b =
-    IsRequest-unique is_a.value a b is_a.ask (request-of_line line is_a.value b is_a.json is_b).1
+    IsRecorded-unique is_a.value a b is_a.ask (request-of_line line is_a.value b is_a.json is_b).1
 
 -- ---- what is no item is none of the kinds
 
@@ -95,11 +115,33 @@ request-told value r is = record {
   headers = is.headers;
 }
 
-request-not_none : (value : Data) (r : Request) (why : BadCause) → IsRequest value r → ¬ (IsNoRequest value why)
-request-not_none value r why is (asked.shape none w) = none (told-by r is.from.0) (request-told value r is)
-request-not_none value r why is (asked.address told is_told none w) = none r.from is.from
-request-not_none value r why is (asked.moment told is_told peer is_peer out w) =
-    none-some r.at (sym out ∙ same_Some told.at (Some r.at) (sym is_told.at ∙ is.at))
+recorded-told : (value : Data) (r : Recorded) → (is : IsRecorded value r) → IsToldWith value (told-by r.request is.request.from.0) (told_reply r.reply)
+recorded-told value r is = (request-told value r.request is.request, is.reply)
+
+-- a reply that was recorded has a moment
+recorded-dated : (told : Told) (at : ℕ) (recorded : Option (Reply × ℕ)) → told.at ≡ Some at → has_moments told (told_reply recorded) ≡ true
+recorded-dated told at None is = rw is refl
+recorded-dated told at (Some r) is = rw is refl
+
+-- what is told of one object is told of it once
+told-moment : (value : Data) (a b : Told) → IsTold value a → IsTold value b → a.at ≡ b.at
+told-moment value a b p q = same_Some a.at b.at (sym p.at ∙ q.at)
+
+told-reply : (value : Data) (a b : Told) (r s : Option ToldReply) → IsToldWith value a r → IsToldWith value b s → r ≡ s
+told-reply value a b r s p q =
+    same_Some r s (sym p.1 ∙ ap (λ at. reply_of at value) (told-moment value a b p.0 q.0) ∙ q.1)
+
+told-has_moments : (value : Data) (a b : Told) (r s : Option ToldReply) → IsToldWith value a r → IsToldWith value b s → has_moments a r ≡ has_moments b s
+told-has_moments value a b r s p q =
+    rw (told-moment value a b p.0 q.0, told-reply value a b r s p q) refl
+
+request-not_none : (value : Data) (r : Recorded) (why : BadCause) → IsRecorded value r → ¬ (IsNoRequest value why)
+request-not_none value r why is (asked.shape none w) = none (told-by r.request is.request.from.0) (told_reply r.reply) (recorded-told value r is)
+request-not_none value r why is (asked.address told reply is_told none w) = none r.request.from is.request.from
+request-not_none value r why is (asked.moment told reply is_told peer is_peer out w) =
+    let this = told-by r.request is.request.from.0 in
+    both_ways (has_moments told reply) out
+    (told-has_moments value told this reply (told_reply r.reply) is_told (recorded-told value r is) ∙ recorded-dated this r.request.at r.reply refl)
 
 pub blank-not_no_item : (line : List ℕ) (why : BadCause) → IsBlank line → ¬ (IsNoItem line why)
 blank-not_no_item line why blank (bad.long is_long w) = both_ways (is_short line) is_long blank.0
@@ -114,17 +156,17 @@ deploy-not_no_item line deployed why d (bad.no_value_item solid value json (bad.
 deploy-not_no_item line deployed why d (bad.no_value_item solid value json (bad.no_request asking none)) =
     none-some deployed (sym asking.0 ∙ deployed-of_line line value deployed json d)
 
-pub ask-not_no_item : (line : List ℕ) (request : Request) (why : BadCause) → IsAsk line request → ¬ (IsNoItem line why)
-ask-not_no_item line request why a (bad.long is_long w) = both_ways (is_short line) is_long a.solid.0
-ask-not_no_item line request why a (bad.no_json solid none w) = none a.value a.json
-ask-not_no_item line request why a (bad.no_value_item solid value json (bad.more no_deploy more w)) =
-    both_ways (has_more value) (((request-of_line line value request json a).0).1) more
-ask-not_no_item line request why a (bad.no_value_item solid value json (bad.no_request asking none)) =
-    request-not_none value request why (request-of_line line value request json a).1 none
+pub ask-not_no_item : (line : List ℕ) (recorded : Recorded) (why : BadCause) → IsAsk line recorded → ¬ (IsNoItem line why)
+ask-not_no_item line recorded why a (bad.long is_long w) = both_ways (is_short line) is_long a.solid.0
+ask-not_no_item line recorded why a (bad.no_json solid none w) = none a.value a.json
+ask-not_no_item line recorded why a (bad.no_value_item solid value json (bad.more no_deploy more w)) =
+    both_ways (has_more value) (((request-of_line line value recorded json a).0).1) more
+ask-not_no_item line recorded why a (bad.no_value_item solid value json (bad.no_request asking none)) =
+    request-not_none value recorded why (request-of_line line value recorded json a).1 none
 
 pub items_have_no_cause : ItemsHaveNoCause
 items_have_no_cause line (lineitem.Deploy deployed) why is = deploy-not_no_item line (view deployed) why is
-items_have_no_cause line (lineitem.Ask recorded) why is = ask-not_no_item line recorded.request why is.0
+items_have_no_cause line (lineitem.Ask recorded) why is = ask-not_no_item line recorded why is
 items_have_no_cause line lineitem.Blank why is = blank-not_no_item line why is
 
 pub none-of_is_some : {A : Type 0} (found : Option A) → is_some found ≡ false → found ≡ None
@@ -141,19 +183,16 @@ says-weaker P Q then fault.Memory h = tt
 same_cause : (a b c : BadCause) → a ≡ c → b ≡ c → a ≡ b
 same_cause a b c p q = p ∙ sym q
 
-told-moment : (value : Data) (a b : Told) → IsTold value a → IsTold value b → a.at ≡ b.at
-told-moment value a b p q = same_Some a.at b.at (sym p.at ∙ q.at)
-
 IsNoRequest-unique : (value : Data) (a b : BadCause) → IsNoRequest value a → IsNoRequest value b → a ≡ b
 IsNoRequest-unique value a b (asked.shape none p) (asked.shape none' q) = same_cause a b cause.Shape p q
-IsNoRequest-unique value a b (asked.shape none p) (asked.address told is none' q) = absurd (none told is)
-IsNoRequest-unique value a b (asked.shape none p) (asked.moment told is peer is_peer out q) = absurd (none told is)
-IsNoRequest-unique value a b (asked.address told is none p) (asked.shape none' q) = absurd (none' told is)
-IsNoRequest-unique value a b (asked.address told is none p) (asked.address told' is' none' q) = same_cause a b cause.BadAddress p q
-IsNoRequest-unique value a b (asked.address told is none p) (asked.moment told' is' peer is_peer out q) = absurd (none peer is_peer)
-IsNoRequest-unique value a b (asked.moment told is peer is_peer out p) (asked.shape none q) = absurd (none told is)
-IsNoRequest-unique value a b (asked.moment told is peer is_peer out p) (asked.address told' is' none q) = absurd (none peer is_peer)
-IsNoRequest-unique value a b (asked.moment told is peer is_peer out p) (asked.moment told' is' peer' is_peer' out' q) = same_cause a b cause.BadMoment p q
+IsNoRequest-unique value a b (asked.shape none p) (asked.address told reply is none' q) = absurd (none told reply is)
+IsNoRequest-unique value a b (asked.shape none p) (asked.moment told reply is peer is_peer out q) = absurd (none told reply is)
+IsNoRequest-unique value a b (asked.address told reply is none p) (asked.shape none' q) = absurd (none' told reply is)
+IsNoRequest-unique value a b (asked.address told reply is none p) (asked.address told' reply' is' none' q) = same_cause a b cause.BadAddress p q
+IsNoRequest-unique value a b (asked.address told reply is none p) (asked.moment told' reply' is' peer is_peer out q) = absurd (none peer is_peer)
+IsNoRequest-unique value a b (asked.moment told reply is peer is_peer out p) (asked.shape none q) = absurd (none told reply is)
+IsNoRequest-unique value a b (asked.moment told reply is peer is_peer out p) (asked.address told' reply' is' none q) = absurd (none peer is_peer)
+IsNoRequest-unique value a b (asked.moment told reply is peer is_peer out p) (asked.moment told' reply' is' peer' is_peer' out' q) = same_cause a b cause.BadMoment p q
 
 IsNoValueItem-unique : (value : Data) (a b : BadCause) → IsNoValueItem value a → IsNoValueItem value b → a ≡ b
 IsNoValueItem-unique value a b (bad.more d more p) (bad.more d' more' q) = same_cause a b cause.Unsupported p q
@@ -237,32 +276,79 @@ found-told value =
     told-of_parts value (moment_of value) (text_of (codes "ip") value) (ssl_of value) (method_of value) (target_of value) (minor_of value) (headers_of value)
     (record { at_is = refl; ip_is = refl; ssl_is = refl; method_is = refl; target_is = refl; minor_is = refl; headers_is = refl })
 
+-- what an object tells of a request and of its reply
+found-both : (value : Data) → Found (λ (both : Told × Option ToldReply). IsToldWith value both.0 both.1)
+found-both value = of_told (found-told value) where
+  of_reply : (told : Told) → IsTold value told → (reply : Option (Option ToldReply)) → reply_of told.at value ≡ reply
+      → Found (λ (both : Told × Option ToldReply). IsToldWith value both.0 both.1)
+  of_reply told is_told None is_none =
+      inr (λ both is. none-some both.1 (sym is_none ∙ ap (λ at. reply_of at value) (told-moment value told both.0 is_told is.0) ∙ is.1))
+  of_reply told is_told (Some reply) is_reply = inl ((told, reply), (is_told, is_reply))
+
+  of_told : Found (IsTold value) → Found (λ (both : Told × Option ToldReply). IsToldWith value both.0 both.1)
+  of_told (inl (told, is_told)) = of_reply told is_told (reply_of told.at value) refl
+  of_told (inr none) = inr (λ both is. none both.0 is.0)
+
 -- what a line is
 pub data Kind (line : List ℕ) : Type 0 where
   blank : IsBlank line → Kind line
   deploy : (deployed : Data) → IsDeploy line deployed → Kind line
-  ask : (request : Request) → IsAsk line request → Kind line
+  ask : (recorded : Recorded) → IsAsk line recorded → Kind line
   no_item : (why : BadCause) → IsNoItem line why → Kind line
 
-kind-of_moment : (line : List ℕ) (value : Data) → IsSolid line → IsJson line value → IsAsking value → (told : Told) → IsTold value told
-    → (peer : Addr) → IsPeer value peer → (at : Option ℕ) → told.at ≡ at → Kind line
-kind-of_moment line value solid json asking told is_told peer is_peer None out =
-    no_item cause.BadMoment (bad.no_value_item solid value json (bad.no_request asking (asked.moment told is_told peer is_peer out refl)))
-kind-of_moment line value solid json asking told is_told peer is_peer (Some at) is_at =
-    let request : Request = record { at = at; from = peer; ssl = told.ssl; method = told.method; target = told.target; minor = told.minor; headers = told.headers; body = []; within = minor-within value told.minor is_told.minor } in
-    let is_request : IsRequest value request = record { at = is_told.at ∙ ap Some is_at; from = is_peer; ssl = is_told.ssl; method = is_told.method; target = is_told.target; minor = is_told.minor; headers = is_told.headers; body = refl } in
-    ask request (record { solid = solid; value = value; json = json; asking = asking; ask = is_request })
+-- a reply with its moment, or that this is out of range
+data Dated (told : Told) (reply : Option ToldReply) : Type 0 where
+  dated : (recorded : Option (Reply × ℕ)) → reply ≡ told_reply recorded → Dated told reply
+  out : has_moments told reply ≡ false → Dated told reply
 
-kind-of_peer : (line : List ℕ) (value : Data) → IsSolid line → IsJson line value → IsAsking value → (told : Told) → IsTold value told
-    → Found (IsPeer value) → Kind line
-kind-of_peer line value solid json asking told is_told (inl (peer, is_peer)) = kind-of_moment line value solid json asking told is_told peer is_peer told.at refl
-kind-of_peer line value solid json asking told is_told (inr none) =
-    no_item cause.BadAddress (bad.no_value_item solid value json (bad.no_request asking (asked.address told is_told none refl)))
+found-dated : (told : Told) (at : ℕ) → told.at ≡ Some at → (reply : Option ToldReply) → Dated told reply
+found-dated told at is_at None = dated None refl
+found-dated told at is_at (Some (reply, None)) = out (rw is_at refl)
+found-dated told at is_at (Some (reply, Some moment)) = dated (Some (reply, moment)) refl
 
-kind-of_told : (line : List ℕ) (value : Data) → IsSolid line → IsJson line value → IsAsking value → Found (IsTold value) → Kind line
-kind-of_told line value solid json asking (inl (told, is_told)) = kind-of_peer line value solid json asking told is_told (found-peer value)
+-- an object that is judged as a request, with what it tells
+record Asks (line : List ℕ) (told : Told) (reply : Option ToldReply) : Type 0 where
+  value : Data
+  solid : IsSolid line
+  json : IsJson line value
+  asking : IsAsking value
+  is_told : IsToldWith value told reply
+
+kind-out : (line : List ℕ) (told : Told) (reply : Option ToldReply) → (a : Asks line told reply) → (peer : Addr) → IsPeer a.value peer
+    → has_moments told reply ≡ false → Kind line
+kind-out line told reply a peer is_peer outside =
+    no_item cause.BadMoment (bad.no_value_item a.solid a.value a.json (bad.no_request a.asking (asked.moment told reply a.is_told peer is_peer outside refl)))
+
+kind-of_dated : (line : List ℕ) (told : Told) (reply : Option ToldReply) → (a : Asks line told reply) → (peer : Addr) → IsPeer a.value peer
+    → (at : ℕ) → told.at ≡ Some at → Dated told reply → Kind line
+kind-of_dated line told reply a peer is_peer at is_at (out is_out) = kind-out line told reply a peer is_peer is_out
+kind-of_dated line told reply a peer is_peer at is_at (dated recorded is_recorded) =
+    let is = a.is_told.0 in
+    let request : Request = record { at = at; from = peer; ssl = told.ssl; method = told.method; target = told.target; minor = told.minor; headers = told.headers; body = []; within = minor-within a.value told.minor is.minor } in
+    let is_request : IsRequest a.value request = record { at = is.at ∙ ap Some is_at; from = is_peer; ssl = is.ssl; method = is.method; target = is.target; minor = is.minor; headers = is.headers; body = refl } in
+    let is_reply = ap (λ m. reply_of m a.value) (sym is_at) ∙ a.is_told.1 ∙ ap Some is_recorded in
+    let whole : Recorded = record { request = request; reply = recorded } in
+    let is_whole : IsRecorded a.value whole = record { request = is_request; reply = is_reply } in
+    ask whole (record { solid = a.solid; value = a.value; json = a.json; asking = a.asking; ask = is_whole })
+
+kind-of_moment : (line : List ℕ) (told : Told) (reply : Option ToldReply) → (a : Asks line told reply) → (peer : Addr) → IsPeer a.value peer
+    → (at : Option ℕ) → told.at ≡ at → Kind line
+kind-of_moment line told reply a peer is_peer None is_none = kind-out line told reply a peer is_peer (rw is_none refl)
+kind-of_moment line told reply a peer is_peer (Some at) is_at =
+    kind-of_dated line told reply a peer is_peer at is_at (found-dated told at is_at reply)
+
+kind-of_peer : (line : List ℕ) (told : Told) (reply : Option ToldReply) → (a : Asks line told reply) → Found (IsPeer a.value) → Kind line
+kind-of_peer line told reply a (inl (peer, is_peer)) = kind-of_moment line told reply a peer is_peer told.at refl
+kind-of_peer line told reply a (inr none) =
+    no_item cause.BadAddress (bad.no_value_item a.solid a.value a.json (bad.no_request a.asking (asked.address told reply a.is_told none refl)))
+
+kind-of_told : (line : List ℕ) (value : Data) → IsSolid line → IsJson line value → IsAsking value
+    → Found (λ (both : Told × Option ToldReply). IsToldWith value both.0 both.1) → Kind line
+kind-of_told line value solid json asking (inl (both, is_told)) =
+    let a : Asks line both.0 both.1 = record { value = value; solid = solid; json = json; asking = asking; is_told = is_told } in
+    kind-of_peer line both.0 both.1 a (found-peer value)
 kind-of_told line value solid json asking (inr none) =
-    no_item cause.Shape (bad.no_value_item solid value json (bad.no_request asking (asked.shape none refl)))
+    no_item cause.Shape (bad.no_value_item solid value json (bad.no_request asking (asked.shape (λ told reply is. none (told, reply) is) refl)))
 
 kind-of_value : (line : List ℕ) (value : Data) → IsSolid line → IsJson line value → (deployed : Option Data) → deployed_of value ≡ deployed
     → (more : Bool) → has_more value ≡ more → Kind line
@@ -270,7 +356,7 @@ kind-of_value line value solid json (Some deployed) is_deploy more is_more =
     deploy deployed (record { solid = solid; value = value; json = json; deploy = is_deploy })
 kind-of_value line value solid json None is_none true is_more =
     no_item cause.Unsupported (bad.no_value_item solid value json (bad.more is_none is_more refl))
-kind-of_value line value solid json None is_none false is_more = kind-of_told line value solid json (is_none, is_more) (found-told value)
+kind-of_value line value solid json None is_none false is_more = kind-of_told line value solid json (is_none, is_more) (found-both value)
 
 kind-of_json : (line : List ℕ) → IsSolid line → Found (IsJson line) → Kind line
 kind-of_json line solid (inl (value, json)) = kind-of_value line value solid json (deployed_of value) refl (has_more value) refl

@@ -1,14 +1,18 @@
 -- The request that an object of a line tells.
-use Rattle.std.specs.Prelude.{◌≡◌, ℕ, ◌^◌, Bool, true, false, ◌&&◌, not, ◌==◌, nat_lt, nat_le, cond, List, [], ◌∷◌, length, codes, Option, Some, None, MatchOption, option_and_then, option_map, bytes_eq}
+use Rattle.std.specs.Prelude.{◌≡◌, ℕ, ◌^◌, Bool, true, false, ◌&&◌, not, ◌==◌, nat_lt, nat_le, cond, List, [], ◌∷◌, length, codes}
+use Rattle.std.specs.Prelude.{Option, Some, None, MatchOption, is_some, option_and_then, option_map, bytes_eq}
 use Rattle.std.specs.Bool.{then_some}
+use Rattle.std.specs.Option.{option_map_or}
 use Rattle.std.specs.List.{list_all}
 use Rattle.serde_json.specs.Data.{Data, Num, unsigned, negative, float, Items, no_items, item}
 use Rattle.serde_json.specs.Find.{get, at as element, as_bool, as_str, as_array, as_number}
 use Rattle.serde_json.specs.Events.{items_len}
 use Rattle.edge_base.specs.declared.message.Header.{Header}
 use Rattle.edge_base.specs.declared.message.Request.{Request}
+use Rattle.edge_base.specs.declared.message.Reply.{Reply}
 use Rattle.edge_base.specs.declared.address.Addr.{Addr}
 use Rattle.edge_base.specs.Address.{IsAddrText}
+use Rattle.trace_form.specs.declared.item.Recorded.{Recorded}
 use Rattle.trace_form.specs.declared.refusal.BadCause.{BadCause}
 use Rattle.trace_form.specs.declared.refusal.BadCause.TheVariants as cause
 use Rattle.trace_form.specs.Members.{has_items, text_of, is_token}
@@ -102,6 +106,42 @@ headers_in value = option_and_then
 abbrev pub headers_of : Data → Option (List Header)
 headers_of value = member_or [] headers_in (get (codes "headers") value)
 
+-- a status: an integer from 100 to 999
+abbrev pub status_in : Num → Option ℕ
+status_in (unsigned n) = then_some (nat_le 100 n && nat_le n 999) n
+status_in (negative z) = None
+status_in (float x) = None
+
+abbrev pub status_of : Data → Option ℕ
+status_of value = option_and_then status_in (option_and_then as_number (get (codes "status") value))
+
+-- the moment of a reply, by default that of its request
+abbrev pub moment_or : Option ℕ → Data → Option (Option ℕ)
+moment_or at value = member_or at (λ member. option_and_then moment_in (as_number member)) (get (codes "at") value)
+
+-- a reply without a body
+abbrev pub reply_from : ℕ → List Header → Reply
+reply_from status headers = record { status = status; headers = headers; body = [] }
+
+-- a reply, and its moment, which is none where it is out of range
+abbrev pub ToldReply : Type 0
+ToldReply = Reply × Option ℕ
+
+-- the reply that an object tells, to a request of this moment
+abbrev pub reply_in : Option ℕ → Data → Option ToldReply
+reply_in at value = option_and_then
+    (λ status. option_and_then
+    (λ moment. option_map (λ headers. (reply_from status headers, moment)) (headers_of value))
+    (moment_or at value))
+    (status_of value)
+
+-- what a member tells of a reply: none where it isn't there
+abbrev pub reply_by : Option ℕ → Option Data → Option (Option ToldReply)
+reply_by at member = member_or None (λ value. option_map Some (reply_in at value)) member
+
+abbrev pub reply_of : Option ℕ → Data → Option (Option ToldReply)
+reply_of at value = reply_by at (get (codes "reply") value)
+
 -- what the object of a request tells: its moment, which is none where it is out of range, the text of its peer, and the
 -- parts of the request
 pub record Told : Type 0 where
@@ -113,7 +153,7 @@ pub record Told : Type 0 where
   pub minor : ℕ
   pub headers : List Header
 
--- each member that is needed is there, each that is there has its form, and this is what they tell
+-- each member of the request that is needed is there, each that is there has its form, and this is what they tell
 pub record IsTold (value : Data) (told : Told) : Type 0 where
   pub at : moment_of value ≡ Some told.at
   pub ip : text_of (codes "ip") value ≡ Some told.ip
@@ -123,9 +163,17 @@ pub record IsTold (value : Data) (told : Told) : Type 0 where
   pub minor : minor_of value ≡ Some told.minor
   pub headers : headers_of value ≡ Some told.headers
 
+-- the same, and what the object tells of a reply
+abbrev pub IsToldWith : Data → Told → Option ToldReply → Type 0
+IsToldWith value told reply = IsTold value told × (reply_of told.at value ≡ Some reply)
+
 -- a member that is needed isn't there, or one that is there hasn't its form
 abbrev pub IsShapeless : Data → Type 0
-IsShapeless value = (told : Told) → ¬ (IsTold value told)
+IsShapeless value = (told : Told) (reply : Option ToldReply) → ¬ (IsToldWith value told reply)
+
+-- the moments of the request and of its reply are in range
+abbrev pub has_moments : Told → Option ToldReply → Bool
+has_moments told reply = is_some told.at && option_map_or (λ r. is_some r.1) reply true
 
 -- the value tells this request
 pub record IsRequest (value : Data) (request : Request) : Type 0 where
@@ -138,10 +186,19 @@ pub record IsRequest (value : Data) (request : Request) : Type 0 where
   pub headers : headers_of value ≡ Some request.headers
   pub body : request.body ≡ []
 
--- why a value tells no request, the first cause that applies: its shape, its peer or its moment
+-- a reply that was recorded with its moment, as it is told
+abbrev pub told_reply : Option (Reply × ℕ) → Option ToldReply
+told_reply recorded = option_map (λ r. (r.0, Some r.1)) recorded
+
+-- the value tells this request, and this reply or none
+pub record IsRecorded (value : Data) (recorded : Recorded) : Type 0 where
+  pub request : IsRequest value recorded.request
+  pub reply : reply_of (Some recorded.request.at) value ≡ Some (told_reply recorded.reply)
+
+-- why a value tells no request, the first cause that applies: its shape, its peer or its moments
 pub data IsNoRequest (value : Data) (why : BadCause) : Type 0 where
   shape : IsShapeless value → why ≡ cause.Shape → IsNoRequest value why
-  address : (told : Told) → IsTold value told → ((peer : Addr) → ¬ (IsPeer value peer)) → why ≡ cause.BadAddress
-      → IsNoRequest value why
-  moment : (told : Told) → IsTold value told → (peer : Addr) → IsPeer value peer → told.at ≡ None
-      → why ≡ cause.BadMoment → IsNoRequest value why
+  address : (told : Told) (reply : Option ToldReply) → IsToldWith value told reply → ((peer : Addr) → ¬ (IsPeer value peer))
+      → why ≡ cause.BadAddress → IsNoRequest value why
+  moment : (told : Told) (reply : Option ToldReply) → IsToldWith value told reply → (peer : Addr) → IsPeer value peer
+      → has_moments told reply ≡ false → why ≡ cause.BadMoment → IsNoRequest value why

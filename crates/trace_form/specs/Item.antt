@@ -5,14 +5,14 @@ use Rattle.serde_json.specs.Data.{Data}
 use Rattle.serde_json.specs.Read.{read}
 use Rattle.serde_json.specs.Find.{get}
 use Rattle.serde_json.specs.View.{view}
-use Rattle.edge_base.specs.declared.message.Request.{Request}
+use Rattle.trace_form.specs.declared.item.Recorded.{Recorded}
 use Rattle.trace_form.specs.declared.item.LineItem.{LineItem}
 use Rattle.trace_form.specs.declared.item.LineItem.TheVariants as lineitem
 use Rattle.trace_form.specs.declared.refusal.BadCause.{BadCause}
 use Rattle.trace_form.specs.declared.refusal.BadCause.TheVariants as cause
 use Rattle.trace_form.specs.declared.refusal.LineFault.{LineFault}
 use Rattle.trace_form.specs.declared.refusal.LineFault.TheVariants as fault
-use Rattle.trace_form.specs.Asked.{IsRequest, IsNoRequest}
+use Rattle.trace_form.specs.Asked.{IsRecorded, IsNoRequest}
 use Rattle.edge_base.specs.Bytes.{tab, carriage_return, space}
 
 -- at most 1,048,576 bytes
@@ -43,9 +43,9 @@ IsSolid line = (is_short line ≡ true) × (is_blank line ≡ false)
 abbrev pub deployed_of : Data → Option Data
 deployed_of value = get (codes "deploy") value
 
--- a member of which no request is taken yet is there: the head as it was sent, or the reply
+-- a member of which no request is taken yet is there: the head as it was sent
 abbrev pub has_more : Data → Bool
-has_more value = is_some (get (codes "raw") value) || is_some (get (codes "reply") value)
+has_more value = is_some (get (codes "raw") value)
 
 -- the value is judged as a request: it is no deployment, and has no more than is taken
 abbrev pub IsAsking : Data → Type 0
@@ -58,13 +58,13 @@ pub record IsDeploy (line : List ℕ) (deployed : Data) : Type 0 where
   pub json : IsJson line value
   pub deploy : deployed_of value ≡ Some deployed
 
--- the line isn't blank, and is this request
-pub record IsAsk (line : List ℕ) (request : Request) : Type 0 where
+-- the line isn't blank, and is this request with this reply or none
+pub record IsAsk (line : List ℕ) (recorded : Recorded) : Type 0 where
   pub solid : IsSolid line
   pub value : Data
   pub json : IsJson line value
   pub asking : IsAsking value
-  pub ask : IsRequest value request
+  pub ask : IsRecorded value recorded
 
 -- why a value is no item: it has what isn't taken yet, or is judged as a request and tells none
 pub data IsNoValueItem (value : Data) (why : BadCause) : Type 0 where
@@ -80,13 +80,13 @@ pub data IsNoItem (line : List ℕ) (why : BadCause) : Type 0 where
 -- the value is what this item holds
 abbrev pub IsValueItem : Data → LineItem → Type 0
 IsValueItem value (lineitem.Deploy deployed) = deployed_of value ≡ Some (view deployed)
-IsValueItem value (lineitem.Ask recorded) = IsAsking value × IsRequest value recorded.request × (recorded.reply ≡ None)
+IsValueItem value (lineitem.Ask recorded) = IsAsking value × IsRecorded value recorded
 IsValueItem value lineitem.Blank = ⊥
 
--- the line is this item; no reply is recorded
+-- the line is this item
 abbrev pub IsItem : List ℕ → LineItem → Type 0
 IsItem line (lineitem.Deploy deployed) = IsDeploy line (view deployed)
-IsItem line (lineitem.Ask recorded) = IsAsk line recorded.request × (recorded.reply ≡ None)
+IsItem line (lineitem.Ask recorded) = IsAsk line recorded
 IsItem line lineitem.Blank = IsBlank line
 
 -- what a refusal says: the cause, if it gives one, is why something is no item

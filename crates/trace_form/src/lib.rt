@@ -10,6 +10,7 @@ mod members;
 mod output;
 mod reader;
 mod refusal;
+mod reply;
 mod request;
 mod steps;
 mod told;

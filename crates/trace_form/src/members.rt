@@ -5,6 +5,7 @@ ghost use Rattle.serde_json.specs.View.{view, items_view};
 ghost use Rattle.serde_json.specs.Find.{get, as_str, as_array};
 ghost use Rattle.ruleset_model.specs.Forms.{is_token_byte};
 ghost use Rattle.trace_form.specs.Members.{has_members, text_of, is_token};
+ghost use Rattle.trace_form.specs.Found.{HasOthers};
 
 use serde_json::Value;
 
@@ -50,6 +51,20 @@ pub(crate) fn member_of(value: Value, name: &str) -> Option<Value>
     match value {
         Value::Object(mut members) => members.remove(name),
         _ => None,
+    }
+}
+
+/// A member of an object, taken out of it, and what is left: the other members.
+pub(crate) fn split_member(value: Value, name: &str) -> (Option<Value>, Value)
+    ensures value { option_map view result.0 ≡ get name.now (view value) }
+    ensures others { HasOthers name.now (view value) (view result.1) }
+{
+    match value {
+        Value::Object(mut members) => {
+            let member = members.remove(name);
+            (member, Value::Object(members))
+        }
+        other => (None, other),
     }
 }
 

@@ -4,7 +4,7 @@ ghost use Rattle.serde_json.specs.Errors.{IsMemory};
 ghost use Rattle.serde_json.specs.View.{view};
 ghost use Rattle.trace_form.specs.Item.{is_short, is_blank, IsJson, IsNoJson, has_more, deployed_of, IsItem, IsNoItem, IsValueItem, IsNoValueItem, SaysWhy};
 
-use crate::item::{LineItem, Recorded};
+use crate::item::LineItem;
 use crate::members::{has_member, member_of};
 use crate::refusal::{BadCause, LineFault};
 use crate::request::request_of;
@@ -55,7 +55,7 @@ fn value_of(alloc: Global, line: &[u8]) -> Result<Value, LineFault>
 fn has_more(value: &Value) -> bool
     ensures { result ≡ has_more (view value.now) }
 {
-    has_member(value, "raw") || has_member(value, "reply")
+    has_member(value, "raw")
 }
 
 /// The value of the member `deploy`, which is there; it is taken out.
@@ -81,10 +81,7 @@ fn item_of(alloc: Global, value: Value) -> Result<LineItem, LineFault>
         return Err(LineFault::Bad(BadCause::Unsupported));
     }
     match request_of(alloc, value) {
-        Ok(request) => Ok(LineItem::Ask(Recorded {
-            request,
-            reply: None,
-        })),
+        Ok(recorded) => Ok(LineItem::Ask(recorded)),
         Err(fault) => Err(fault),
     }
 }

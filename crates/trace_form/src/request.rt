@@ -2,14 +2,16 @@ ghost use Rattle.std.specs.Prelude.{◌≡◌, ◌≤◌, option_map, IfOk, IfEr
 ghost use Rattle.std.specs.List.{list_all};
 ghost use Rattle.serde_json.specs.View.{view, number_view};
 ghost use Rattle.trace_form.specs.Asked.{is_method, is_target_byte, is_target, moment_in, moment_of, ssl_of, minor_in, minor_of};
-ghost use Rattle.trace_form.specs.Asked.{method_of, target_of, IsRequest, IsNoRequest};
+ghost use Rattle.trace_form.specs.Asked.{method_of, target_of, IsRecorded, IsNoRequest};
 ghost use Rattle.trace_form.specs.Item.{SaysWhy};
-ghost use Rattle.trace_form.specs.Found.{IsToldFound};
+ghost use Rattle.trace_form.specs.Found.{IsToldFound, IsBothFound};
 
 use crate::headers::headers_of;
-use crate::members::{is_token, text_of};
+use crate::item::Recorded;
+use crate::members::{is_token, split_member, text_of};
 use crate::refusal::{BadCause, LineFault};
-use crate::told::Told;
+use crate::reply::{dated, reply_by};
+use crate::told::{Told, ToldReply};
 use edge_base::{Memory, Moment, Request, Text, parse_addr};
 use serde_json::{Number, Value};
 use std::alloc::Global;
@@ -38,7 +40,7 @@ fn is_target(text: &[u8]) -> bool
 }
 
 /// The moment that a number tells: none where it is no integer, and none inside where it isn't from 0 to 2^53.
-fn moment_in(number: &Number) -> Option<Option<Moment>>
+pub(crate) fn moment_in(number: &Number) -> Option<Option<Moment>>
     ensures { result ≡ moment_in (number_view number.now) }
 {
     if number.is_f64() {
@@ -106,7 +108,7 @@ fn target_of(value: &Value) -> Option<&[u8]>
     if is_target(text) { Some(text) } else { None }
 }
 
-/// What an object tells, where it has the shape of a request. The texts of the headers are taken out of it.
+/// What an object tells of a request, where it has the shape of one. The texts of the headers are taken out of it.
 fn told_of(alloc: Global, value: Value) -> Result<Option<Told>, Memory>
     ensures { IfOk result (IsToldFound (view value)) }
 {
@@ -145,12 +147,27 @@ fn told_of(alloc: Global, value: Value) -> Result<Option<Told>, Memory>
     }))
 }
 
-/// The request that an object tells, or the first cause why it tells none. The texts of the headers are taken out of it.
-pub(crate) fn request_of(alloc: Global, value: Value) -> Result<Request, LineFault>
-    ensures ok { IfOk result (IsRequest (view value)) }
+/// What an object tells of a request and of its reply. The texts of the headers are taken out of it.
+fn both_of(alloc: Global, value: Value) -> Result<Option<(Told, Option<ToldReply>)>, Memory>
+    ensures { IfOk result (IsBothFound (view value)) }
+{
+    let (member, rest) = split_member(value, "reply");
+    let Some(told) = told_of(alloc, rest)? else {
+        return Ok(None);
+    };
+    let Some(reply) = reply_by(alloc, told.at, member)? else {
+        return Ok(None);
+    };
+    Ok(Some((told, reply)))
+}
+
+/// The request that an object tells, with its reply, or the first cause why it tells none. The texts of the headers are
+/// taken out of it.
+pub(crate) fn request_of(alloc: Global, value: Value) -> Result<Recorded, LineFault>
+    ensures ok { IfOk result (IsRecorded (view value)) }
     ensures bad { IfErr result (SaysWhy (IsNoRequest (view value))) }
 {
-    let Some(told) = told_of(alloc, value)? else {
+    let Some((told, reply)) = both_of(alloc, value)? else {
         return Err(LineFault::Bad(BadCause::Shape));
     };
     let Some(from) = told.from else {
@@ -159,7 +176,10 @@ pub(crate) fn request_of(alloc: Global, value: Value) -> Result<Request, LineFau
     let Some(at) = told.at else {
         return Err(LineFault::Bad(BadCause::BadMoment));
     };
-    Ok(Request {
+    let Some(reply) = dated(reply) else {
+        return Err(LineFault::Bad(BadCause::BadMoment));
+    };
+    let request = Request {
         at,
         from,
         ssl: told.ssl,
@@ -168,5 +188,6 @@ pub(crate) fn request_of(alloc: Global, value: Value) -> Result<Request, LineFau
         minor: told.minor,
         headers: told.headers,
         body: Text::from_vec(Vec::new(alloc)),
-    })
+    };
+    Ok(Recorded { request, reply })
 }

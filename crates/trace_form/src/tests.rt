@@ -1,4 +1,5 @@
 mod lines;
+mod replies;
 
 use crate::{BadCause, LineFault, LineItem, push_bad_line, push_deploy_line, read_item};
 use edge_base::{Addr, Header, Request, TextBuilder};
@@ -7,7 +8,7 @@ use std::test::Fail;
 /// A line, and what it is or why it is no item.
 type Row = (&'static str, &'static str);
 
-const ROWS: [Row; 39] = [
+const ROWS: [Row; 38] = [
     ("", "blank"),
     (" \t\r", "blank"),
     (r#"{"deploy":{"rulesets":[]}}"#, "deploy"),
@@ -21,7 +22,6 @@ const ROWS: [Row; 39] = [
     (r#"null"#, "Shape"),
     (r#"{}"#, "Shape"),
     (r#"{"raw":null}"#, "Unsupported"),
-    (r#"{"at":1.0,"reply":{}}"#, "Unsupported"),
     (
         r#"{"at":0,"ip":"10.0.0.1","method":"GET","target":"/","headers":[]}"#,
         "ask",
@@ -112,6 +112,7 @@ const ROWS: [Row; 39] = [
     ),
 ];
 
+/// The name of what a line was read as, or of the cause why it is no item.
 fn name_of(read: &Result<LineItem, LineFault>) -> &'static [u8] {
     match read {
         Ok(LineItem::Blank) => b"blank",

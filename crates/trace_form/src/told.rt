@@ -1,6 +1,6 @@
 ghost use Rattle.std.specs.Prelude.{◌≤◌};
 
-use edge_base::{Addr, Headers, Moment, Text};
+use edge_base::{Addr, Headers, Moment, Reply, Text};
 
 /// What the object of a request tells. The moment is none where it is out of range, the peer where its text is no
 /// address.
@@ -15,3 +15,6 @@ pub struct Told {
     pub headers: Headers,
     ghost within: { minor ≤ 1 },
 }
+
+/// What an object tells of a reply: the reply, and its moment, which is none where it is out of range.
+pub type ToldReply = (Reply, Option<Moment>);

@@ -20,9 +20,9 @@ returns-in-Ok-Deploy c =
 pub returns-in-Ok-Ask : goal.returns-in-Ok-Ask
 returns-in-Ok-Ask c =
     let s = c.args.self.now in
-    let asked = c.in-Ok-Ask.recorded.request in
-    let ask = (subst (IsItem c.args.given.now) c.in-Ok-Ask.field-0-is c.in-Ok-Ask.ensures.ok).0 in
-    OnOk-said c.judge.result _ _ (λ came. (judged s asked, answered.request asked ask refl, came)) c.judge.ensures
+    let recorded = c.in-Ok-Ask.recorded in
+    let ask = subst (IsItem c.args.given.now) c.in-Ok-Ask.field-0-is c.in-Ok-Ask.ensures.ok in
+    OnOk-said c.judge.result _ _ (λ came. (judged s recorded.request, answered.request recorded ask refl, came)) c.judge.ensures
 
 pub returns-in-Err : goal.returns-in-Err
 returns-in-Err c =
