@@ -4,4 +4,5 @@ pub mod Item
 pub mod Line
 pub mod Found
 pub mod Apart
+pub mod Made
 pub mod Changed

@@ -1,4 +1,5 @@
 mod lines;
+mod made;
 mod replies;
 
 use crate::{BadCause, LineFault, LineItem, push_bad_line, push_deploy_line, read_item};
