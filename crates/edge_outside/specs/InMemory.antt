@@ -1,5 +1,5 @@
 -- A source and a sink in memory as contracts see them, and what each call makes of them.
-use Rattle.std.specs.Prelude.{◌≡◌, ◌⊎◌, ℕ, ◌-◌, ◌<◌, List, [], ◌++◌, length, take, drop, min, Contains}
+use Rattle.std.specs.Prelude.{◌≡◌, ◌⊎◌, ℕ, ◌-◌, ◌<◌, List, [], ◌++◌, Some, length, take, drop, min, Contains}
 use Rattle.edge_outside.specs.Faults.{next_count}
 use Rattle.edge_outside.specs.Shown.{SourceShown, SinkShown}
 
