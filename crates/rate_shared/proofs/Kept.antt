@@ -75,24 +75,83 @@ starts shape slots count few each = record {
       turn = λ lane is. absurd (omega arith);
     }
 
+module _ (shape : Shape) (s : St) (r : IsKept shape s) where
+  -- a lane whose turn word a step doesn't touch is at home as before
+  other_home : (words' : List ℕ) (homes' : List (maybe.Option (Option Lane))) (history' : List Entry) (lane : ℕ)
+      → get_or words' (turn_word lane) 0 ≡ get_or s.words (turn_word lane) 0 → get_elem? homes' lane ≡ get_elem? s.homes lane
+      → entries_in shape.lanes lane history' ≡ entries_in shape.lanes lane r.history
+      → lane < shape.lanes → get_or words' (turn_word lane) 0 ≡ 0 → IsHome shape homes' history' lane
+  other_home words' homes' history' lane same here list within free =
+      let was = r.home lane within (sym same ∙ free) in
+      (was.0, here ∙ was.1, record { room = was.2.room; own = subst (IsLaneOf was.0) (sym list) was.2.own })
+
+  -- only what the seats know changes, and which seat has which number
+  views_change : (owner' : ℕ → ℕ) (views' : List View) → ((j : ℕ) (d : View) → get_elem? views' j ≡ some d → Knows shape s.words r.holder owner' r.history j d)
+      → IsKept shape record { words = s.words; homes = s.homes; views = views' }
+  views_change owner' views' each = record {
+    history = r.history;
+    holder = r.holder;
+    owner = owner';
+    wide = r.wide;
+    deep = r.deep;
+    callers = r.callers;
+    long = r.long;
+    legal = r.legal;
+    by_callers = r.by_callers;
+    room = r.room;
+    home = r.home;
+    each = each;
+  }
+
+  -- a load, which changes the view of one seat
+  loads : (i id : ℕ) (w : View) → Knows shape s.words r.holder r.owner r.history id w → IsKept shape record { words = set s.words i (get_or s.words i 0); homes = s.homes; views = set s.views id w }
+  loads i id w knows = subst (λ (ws : List ℕ). IsKept shape record { words = ws; homes = s.homes; views = set s.views id w }) (sym (set-get_or s.words i 0))
+      (views_change r.owner (set s.views id w) (each_set (Knows shape s.words r.holder r.owner r.history) s.views id w knows (λ j d _ at. r.each j d at)))
+
+  -- the turn word of a lane changes, and its slot, by the step of one seat
+  module _ (id lane turn : ℕ) (slot : maybe.Option (Option Lane)) (holder' : ℕ → ℕ) (w : View) where
+    turn_changes : (get_or (set s.words (turn_word lane) turn) (turn_word lane) 0 ≡ 0 → IsHome shape (set s.homes lane slot) r.history lane)
+        → Knows shape (set s.words (turn_word lane) turn) holder' r.owner r.history id w
+        → ((j l : ℕ) → j ≢ id → r.holder l ≡ j → get_or s.words (turn_word l) 0 ≡ 1 → (l ≢ lane) × (holder' l ≡ j))
+        → IsKept shape record { words = set s.words (turn_word lane) turn; homes = set s.homes lane slot; views = set s.views id w }
+    turn_changes here mine apart = record {
+      history = r.history;
+      holder = holder';
+      owner = r.owner;
+      wide = length-set s.words (turn_word lane) turn ∙ r.wide;
+      deep = length-set s.homes lane slot ∙ r.deep;
+      callers = r.callers;
+      long = get_or-set_other s.words (turn_word lane) 0 turn 0 (λ e. omega arith) ∙ r.long;
+      legal = r.legal;
+      by_callers = r.by_callers;
+      room = r.room;
+      home = λ l inside free. dite (ℕ_discrete l lane)
+          (λ same. subst (IsHome shape homes' r.history) (sym same) (here (subst (λ (n : ℕ). get_or words' (turn_word n) 0 ≡ 0) same free)))
+          (λ away. other_home words' homes' r.history l (beside l away) (set_else s.homes lane l slot away) refl inside free);
+      each = each_set (Knows shape words' holder' r.owner r.history) s.views id w mine others;
+    }
+      where
+        words' : List ℕ
+        words' = set s.words (turn_word lane) turn
+
+        homes' : List (maybe.Option (Option Lane))
+        homes' = set s.homes lane slot
+
+        beside : (l : ℕ) → l ≢ lane → get_or words' (turn_word l) 0 ≡ get_or s.words (turn_word l) 0
+        beside l away = get_or-set_other s.words (turn_word lane) (turn_word l) turn 0 (λ e. away (omega arith))
+
+        others : (j : ℕ) (d : View) → j ≢ id → get_elem? s.views j ≡ some d → Knows shape words' holder' r.owner r.history j d
+        others j d other there =
+            knows_on shape r.owner r.owner j r.history r.history (prefix_self r.history) s.words words' r.holder holder' d (λ k has. (has, refl))
+            (λ l inside held taken. let is = apart j l other held taken in (beside l is.0 ∙ taken, is.1, refl))
+            (r.each j d there)
+
 -- the first number of a seat goes to a new one
 pub splits_number : (shape : Shape) (id : ℕ) (v : View) → v.known.from < v.known.to → v.kept ≡ [] → Splits (IsKept shape) id v (without_number v) (numbered v)
-splits_number shape id v some_left none_kept s r at = record {
-  history = r.history;
-  holder = r.holder;
-  owner = owner';
-  wide = r.wide;
-  deep = r.deep;
-  callers = r.callers;
-  long = r.long;
-  legal = r.legal;
-  by_callers = r.by_callers;
-  room = r.room;
-  home = r.home;
-  each = λ j d there. ⊎_elim (each_set K s.views id (without_number v) left others j d)
-      (λ (t : (j ≡ new) × (numbered v ≡ d)). subst (λ (x : ℕ × View). K x.0 x.1) (λ i. (sym t.0 i, t.1 i)) right)
-      (at_end (set s.views id (without_number v)) (numbered v) d j there);
-}
+splits_number shape id v some_left none_kept s r at =
+    views_change shape s r owner' (set s.views id (without_number v) ++ numbered v ∷ []) (λ j d there. ⊎_elim (each_set K s.views id (without_number v) left others j d)
+    (λ (t : (j ≡ new) × (numbered v ≡ d)). subst (λ (x : ℕ × View). K x.0 x.1) (λ i. (sym t.0 i, t.1 i)) right)
+    (at_end (set s.views id (without_number v)) (numbered v) d j there))
   where
     new : ℕ
     new = length (set s.views id (without_number v))
@@ -143,22 +202,10 @@ splits_number shape id v some_left none_kept s r at = record {
 
 -- what was seen goes to a new seat
 pub splits_note : (shape : Shape) (id : ℕ) (v : View) → Splits (IsKept shape) id v v (note_of v)
-splits_note shape id v s r at = record {
-  history = r.history;
-  holder = r.holder;
-  owner = r.owner;
-  wide = r.wide;
-  deep = r.deep;
-  callers = r.callers;
-  long = r.long;
-  legal = r.legal;
-  by_callers = r.by_callers;
-  room = r.room;
-  home = r.home;
-  each = λ j d there. ⊎_elim (each_set K s.views id v was (λ i x _ h. r.each i x h) j d)
-      (λ (t : (j ≡ length (set s.views id v)) × (note_of v ≡ d)). subst (λ (z : View). K j z) t.1 (right j))
-      (at_end (set s.views id v) (note_of v) d j there);
-}
+splits_note shape id v s r at =
+    views_change shape s r r.owner (set s.views id v ++ note_of v ∷ []) (λ j d there. ⊎_elim (each_set K s.views id v was (λ i x _ h. r.each i x h) j d)
+    (λ (t : (j ≡ length (set s.views id v)) × (note_of v ≡ d)). subst (λ (z : View). K j z) t.1 (right j))
+    (at_end (set s.views id v) (note_of v) d j there))
   where
     K : ℕ → View → Type 0
     K = Knows shape s.words r.holder r.owner r.history
@@ -176,20 +223,9 @@ splits_note shape id v s r at = record {
 
 -- a seat takes in what another knew
 pub joins_seats : (shape : Shape) (id : ℕ) (v : View) (other : ℕ) (w : View) → Joins (IsKept shape) id v other w (met v w) nobody
-joins_seats shape id v other w s r at apart there = record {
-  history = r.history;
-  holder = r.holder;
-  owner = owner';
-  wide = r.wide;
-  deep = r.deep;
-  callers = r.callers;
-  long = r.long;
-  legal = r.legal;
-  by_callers = r.by_callers;
-  room = r.room;
-  home = r.home;
-  each = each_set K (set s.views id (met v w)) other nobody spent (λ j d off here. each_set (λ i x. i ≢ other → K i x) s.views id (met v w) (λ _. both) (λ i x away h off'. others i x away off' h) j d here off);
-}
+joins_seats shape id v other w s r at apart there =
+    views_change shape s r owner' (set (set s.views id (met v w)) other nobody)
+    (each_set K (set s.views id (met v w)) other nobody spent (λ j d off here. each_set (λ i x. i ≢ other → K i x) s.views id (met v w) (λ _. both) (λ i x away h off'. others i x away off' h) j d here off))
   where
     owner' : ℕ → ℕ
     owner' = moved w.known.from w.known.to id r.owner
@@ -239,96 +275,45 @@ joins_seats shape id v other w s r at apart there = record {
         ))
         (λ lane _ held taken. (taken, held, refl)) (r.each j d here)
 
-module _ (shape : Shape) (s : St) (r : IsKept shape s) where
-  -- a lane whose turn word a step doesn't touch is at home as before
-  other_home : (words' : List ℕ) (homes' : List (maybe.Option (Option Lane))) (history' : List Entry) (lane : ℕ)
-      → get_or words' (turn_word lane) 0 ≡ get_or s.words (turn_word lane) 0 → get_elem? homes' lane ≡ get_elem? s.homes lane
-      → entries_in shape.lanes lane history' ≡ entries_in shape.lanes lane r.history
-      → lane < shape.lanes → get_or words' (turn_word lane) 0 ≡ 0 → IsHome shape homes' history' lane
-  other_home words' homes' history' lane same here list within free =
-      let was = r.home lane within (sym same ∙ free) in
-      (was.0, here ∙ was.1, record { room = was.2.room; own = subst (IsLaneOf was.0) (sym list) was.2.own })
+-- the turn of a lane is taken
+takes_free : (shape : Shape) (s : St) (r : IsKept shape s) (id lane : ℕ) (v : View) → get_elem? s.views id ≡ some v → lane < shape.lanes → get_or s.words (turn_word lane) 0 ≡ 0
+    → IsKept shape record { words = set s.words (turn_word lane) 1; homes = set s.homes lane none; views = set s.views id (turned v (turn_word lane) (entries_in shape.lanes lane r.history)) }
+takes_free shape s r id lane v at within free =
+    turn_changes shape s r id lane 1 none holder' w (λ zero_now. absurd (one_not (get_or words' (turn_word lane) 0) now zero_now)) mine
+    (λ j l other held taken.
+    let away : l ≢ lane = λ e. one_not (get_or s.words (turn_word l) 0) taken (ap (λ (n : ℕ). get_or s.words (turn_word n) 0) e ∙ free) in
+    (away, moved_kept lane (lane + 1) id r.holder l j held (λ low high. absurd (away (omega arith)))))
+  where
+    words' : List ℕ
+    words' = set s.words (turn_word lane) 1
 
-  -- a load, which changes the view of one seat
-  loads : (i id : ℕ) (w : View) → Knows shape s.words r.holder r.owner r.history id w → IsKept shape record { words = set s.words i (get_or s.words i 0); homes = s.homes; views = set s.views id w }
-  loads i id w knows = subst (λ (ws : List ℕ). IsKept shape record { words = ws; homes = s.homes; views = set s.views id w }) (sym (set-get_or s.words i 0)) record {
-    history = r.history;
-    holder = r.holder;
-    owner = r.owner;
-    wide = r.wide;
-    deep = r.deep;
-    callers = r.callers;
-    long = r.long;
-    legal = r.legal;
-    by_callers = r.by_callers;
-    room = r.room;
-    home = r.home;
-    each = each_set (Knows shape s.words r.holder r.owner r.history) s.views id w knows (λ j d _ at. r.each j d at);
-  }
+    w : View
+    w = turned v (turn_word lane) (entries_in shape.lanes lane r.history)
 
-  -- the turn of a lane is taken
-  takes_free : (id lane : ℕ) (v : View) → get_elem? s.views id ≡ some v → lane < shape.lanes → get_or s.words (turn_word lane) 0 ≡ 0
-      → IsKept shape record { words = set s.words (turn_word lane) 1; homes = set s.homes lane none; views = set s.views id (turned v (turn_word lane) (entries_in shape.lanes lane r.history)) }
-  takes_free id lane v at within free = record {
-    history = r.history;
-    holder = holder';
-    owner = r.owner;
-    wide = length-set s.words (turn_word lane) 1 ∙ r.wide;
-    deep = length-set s.homes lane none ∙ r.deep;
-    callers = r.callers;
-    long = get_or-set_other s.words (turn_word lane) 0 1 0 (λ e. omega arith) ∙ r.long;
-    legal = r.legal;
-    by_callers = r.by_callers;
-    room = r.room;
-    home = λ l inside zero_now. dite (ℕ_discrete l lane)
-        (λ same. absurd (one_not (get_or words' (turn_word l) 0) (ap (λ (n : ℕ). get_or words' (turn_word n) 0) same ∙ now) zero_now))
-        (λ away. other_home words' (set s.homes lane none) r.history l (beside l away) (set_else s.homes lane l none away) refl inside zero_now);
-    each = each_set K s.views id w mine others;
-  }
-    where
-      words' : List ℕ
-      words' = set s.words (turn_word lane) 1
+    holder' : ℕ → ℕ
+    holder' = moved lane (lane + 1) id r.holder
 
-      w : View
-      w = turned v (turn_word lane) (entries_in shape.lanes lane r.history)
+    one_not : (a : ℕ) → a ≡ 1 → a ≡ 0 → ⊥
+    one_not a is not = omega arith
 
-      holder' : ℕ → ℕ
-      holder' = moved lane (lane + 1) id r.holder
+    now : get_or words' (turn_word lane) 0 ≡ 1
+    now = get_or-set_same s.words (turn_word lane) 1 0 (omega (arith, r.wide))
 
-      K : ℕ → View → Type 0
-      K = Knows shape words' holder' r.owner r.history
+    was : Knows shape s.words r.holder r.owner r.history id v
+    was = r.each id v at
 
-      one_not : (a : ℕ) → a ≡ 1 → a ≡ 0 → ⊥
-      one_not a is not = omega arith
-
-      now : get_or words' (turn_word lane) 0 ≡ 1
-      now = get_or-set_same s.words (turn_word lane) 1 0 (omega (arith, r.wide))
-
-      beside : (l : ℕ) → l ≢ lane → get_or words' (turn_word l) 0 ≡ get_or s.words (turn_word l) 0
-      beside l away = get_or-set_other s.words (turn_word lane) (turn_word l) 1 0 (λ e. away (omega arith))
-
-      was : Knows shape s.words r.holder r.owner r.history id v
-      was = r.each id v at
-
-      mine : K id w
-      mine = record {
-        shape_is = was.shape_is;
-        known = was.known;
-        kept = was.kept;
-        turn = λ l is. let same : lane ≡ l = omega arith in record {
-          within = subst (λ (n : ℕ). n < shape.lanes) same within;
-          taken = ap (λ (n : ℕ). get_or words' (turn_word n) 0) (sym same) ∙ now;
-          held = moved_in lane (lane + 1) id r.holder l (omega arith) (omega arith);
-          list = ap (λ (n : ℕ). entries_in shape.lanes n r.history) same;
-        };
-      }
-
-      others : (j : ℕ) (d : View) → j ≢ id → get_elem? s.views j ≡ some d → K j d
-      others j d other there =
-          knows_on shape r.owner r.owner j r.history r.history (prefix_self r.history) s.words words' r.holder holder' d (λ k has. (has, refl))
-          (λ l inside held taken. let away : l ≢ lane = λ e. one_not (get_or s.words (turn_word l) 0) taken (ap (λ (n : ℕ). get_or s.words (turn_word n) 0) e ∙ free) in
-          (beside l away ∙ taken, moved_kept lane (lane + 1) id r.holder l j held (λ low high. absurd (away (omega arith))), refl))
-          (r.each j d there)
+    mine : Knows shape words' holder' r.owner r.history id w
+    mine = record {
+      shape_is = was.shape_is;
+      known = was.known;
+      kept = was.kept;
+      turn = λ l is. let same : lane ≡ l = omega arith in record {
+        within = subst (λ (n : ℕ). n < shape.lanes) same within;
+        taken = ap (λ (n : ℕ). get_or words' (turn_word n) 0) (sym same) ∙ now;
+        held = moved_in lane (lane + 1) id r.holder l (omega arith) (omega arith);
+        list = ap (λ (n : ℕ). entries_in shape.lanes n r.history) same;
+      };
+    }
 
 pub takes_turn : (shape : Shape) (slots id : ℕ) (me : Sat) (lane : ℕ) → lane < slots → 0 < me.0.shape.lanes
     → Allows (IsKept shape) slots id me (turn_word lane) (λ n. either (eqb n 0) 1 n) (Takes (step slots (turn_word lane) 0 1 none) me)
@@ -390,47 +375,14 @@ module _ (shape : Shape) (s : St) (r : IsKept shape s) (id lane : ℕ) (v : View
   -- the turn of a lane is given back, and the lane comes home
   gives_back : (x : Lane) → IsLaneAt x shape.lanes shape.cap r.history lane
       → IsKept shape record { words = set s.words (turn_word lane) 0; homes = set s.homes lane (some (Some x)); views = set s.views id (turned v 0 []) }
-  gives_back x stands = record {
-    history = r.history;
-    holder = r.holder;
-    owner = r.owner;
-    wide = length-set s.words (turn_word lane) 0 ∙ r.wide;
-    deep = length-set s.homes lane (some (Some x)) ∙ r.deep;
-    callers = r.callers;
-    long = get_or-set_other s.words (turn_word lane) 0 0 0 (λ e. omega arith) ∙ r.long;
-    legal = r.legal;
-    by_callers = r.by_callers;
-    room = r.room;
-    home = λ l inside zero_now. dite (ℕ_discrete l lane)
-        (λ same. subst (IsHome shape homes' r.history) (sym same) (x, set_here s.homes lane (some (Some x)) (omega (arith, r.deep, (was.turn lane turn).within)), stands))
-        (λ away. other_home shape s r words' homes' r.history l (beside l away) (set_else s.homes lane l (some (Some x)) away) refl inside zero_now);
-    each = each_set K s.views id (turned v 0 []) mine others;
-  }
+  gives_back x stands =
+      turn_changes shape s r id lane 0 (some (Some x)) r.holder (turned v 0 [])
+      (λ _. (x, set_here s.homes lane (some (Some x)) (omega (arith, r.deep, (was.turn lane turn).within)), stands))
+      record { shape_is = was.shape_is; known = was.known; kept = was.kept; turn = λ l is. absurd (omega arith) }
+      (λ j l other held taken. (λ e. other (sym held ∙ (ap r.holder e ∙ (was.turn lane turn).held)), held))
     where
-      words' : List ℕ
-      words' = set s.words (turn_word lane) 0
-
-      homes' : List (maybe.Option (Option Lane))
-      homes' = set s.homes lane (some (Some x))
-
-      K : ℕ → View → Type 0
-      K = Knows shape words' r.holder r.owner r.history
-
       was : Knows shape s.words r.holder r.owner r.history id v
       was = r.each id v at
-
-      beside : (l : ℕ) → l ≢ lane → get_or words' (turn_word l) 0 ≡ get_or s.words (turn_word l) 0
-      beside l away = get_or-set_other s.words (turn_word lane) (turn_word l) 0 0 (λ e. away (omega arith))
-
-      mine : K id (turned v 0 [])
-      mine = record { shape_is = was.shape_is; known = was.known; kept = was.kept; turn = λ l is. absurd (omega arith) }
-
-      others : (j : ℕ) (d : View) → j ≢ id → get_elem? s.views j ≡ some d → K j d
-      others j d other there =
-          knows_on shape r.owner r.owner j r.history r.history (prefix_self r.history) s.words words' r.holder r.holder d (λ k has. (has, refl))
-          (λ l inside held taken. let away : l ≢ lane = λ e. other (sym held ∙ (ap r.holder e ∙ (was.turn lane turn).held)) in
-          (beside l away ∙ taken, held, refl))
-          (r.each j d there)
 
   -- an entry of the lane is added
   adds_entry : (entry : Entry) → lane_of_key shape.lanes entry.key ≡ lane → v.known.from ≤ entry.caller → entry.caller < v.known.to → v.kept ≡ []
