@@ -1,0 +1,12 @@
+pub mod BackLemmas
+pub mod EndLemmas
+pub mod KeepLemmas
+pub mod KeyLemmas
+pub mod MergeLemmas
+pub mod PlaceLemmas
+pub mod SkipLemmas
+pub mod StandsLemmas
+pub mod StepLemmas
+pub mod SuitLemmas
+pub mod TalkLemmas
+pub mod ValueLemmas
