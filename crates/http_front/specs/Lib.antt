@@ -1,0 +1,6 @@
+pub mod Heads
+pub mod Framing
+pub mod Reading
+pub mod Replies
+pub mod Places
+pub mod Steps
