@@ -1,5 +1,12 @@
+pub mod AnswerLemmas
 pub mod EachLemmas
-pub mod ListsSettled
+pub mod IdLemmas
+pub mod JudgedLemmas
+pub mod MappedLemmas
+pub mod MeantLemmas
 pub mod MemberLemmas
+pub mod NamedLemmas
+pub mod OrderLemmas
 pub mod PlaceLemmas
 pub mod SettledLemmas
+pub mod ListsSettled

@@ -1,17 +1,15 @@
 -- The member `form`, and the named lists of a document: `lists`.
-use Rattle.std.specs.Prelude.{ℕ, ◌==◌, Bool, true, false, not, ◌&&◌, ◌||◌, is_none, if◌then◌else◌, nat_lt, nat_le, List, [], map, length, codes, Option, None, Some, option_and_then, bytes_eq}
-use Rattle.std.specs.List.{list_all}
+use Rattle.std.specs.Prelude.{ℕ, ◌==◌, Bool, true, false, not, is_none, if◌then◌else◌, nat_lt, List, [], map, length, codes, Option, None, Some, option_and_then, bytes_eq}
 use Rattle.std.specs.Option.{option_map_or, unwrap_or}
-use Rattle.std.specs.Char.{is_ascii_lowercase, is_ascii_digit}
 use Rattle.serde_json.specs.Data.{Data}
 use Rattle.serde_json.specs.Find.{get, as_str, as_array, as_number, as_u64}
-use Rattle.edge_base.specs.Bytes.{underscore}
 use Rattle.edge_base.specs.declared.expression.Item.{Item}
 use Rattle.edge_fields.specs.declared.kind.Basic.{Basic}
 use Rattle.edge_fields.specs.declared.kind.Basic.TheVariants as basic
 use Rattle.addr_set.specs.ItemTexts.{IsGoodText}
 use Rattle.list_store.specs.declared.part.ListPart.{ListPart}
 use Rattle.list_store.specs.Parts.{is_named}
+use Rattle.ruleset_model.specs.Forms.{is_list_name}
 use Rattle.config_read.specs.declared.fault.Cause.TheVariants as cause
 use Rattle.config_read.specs.Places.{whole, top, child, nth}
 use Rattle.config_read.specs.Refusals.{Table, ◌▸◌, refuse, refuse_unless, each, IsSettled}
@@ -28,13 +26,6 @@ abbrev pub form_table : Data → Table
 form_table d = refuse (child top (codes "form")) cause.Shape (not (option_map_or is_one (get (codes "form") d) true))
 
 -- ---- one list
-
--- 1 to 64 lower-case letters, digits and `_`
-abbrev pub is_list_name_byte : ℕ → Bool
-is_list_name_byte byte = is_ascii_lowercase byte || is_ascii_digit byte || byte == underscore
-
-abbrev pub is_list_name : List ℕ → Bool
-is_list_name name = nat_lt 0 (length name) && nat_le (length name) 64 && list_all is_list_name_byte name
 
 -- the kind of a name
 abbrev pub list_kind_of : List ℕ → Option Basic

@@ -2,14 +2,37 @@
 //! the reading order of the table of configurations.
 #![tactic(auto)]
 
+mod action;
+mod acts;
+mod blocks;
+mod conditions;
+mod document;
+mod executions;
 mod fault;
+mod headers;
+mod heads;
+mod ids;
+mod judging;
+mod limits;
 mod lists;
 mod members;
+mod names;
+mod ordered;
 mod places;
+mod reading;
 mod refusals;
+mod rewrites;
+mod rules;
+mod rulesets;
+mod sets;
+mod skipping;
+mod values;
 
+pub use action::Action;
+pub use document::{Document, document_of};
 pub use fault::{Cause, ConfigFault};
 pub use lists::{front_is_settled, lists_of};
+pub use reading::read_document;
 
 #[cfg(test)]
 mod tests;

@@ -1,11 +1,14 @@
-ghost use Rattle.std.specs.Prelude.{◌≡◌, map, IfOk};
+ghost use Rattle.std.specs.Prelude.{◌≡◌, map, true, false, IfOk};
 ghost use Rattle.std.specs.Bool.{MatchBool};
 ghost use Rattle.std.specs.List.{list_all};
 ghost use Rattle.serde_json.specs.View.{view};
+ghost use Rattle.edge_fields.specs.Schemes.{is_list_kind, AreLists};
+ghost use Rattle.list_store.specs.Listed.{list_kinds_of};
 ghost use Rattle.list_store.specs.Parts.{is_named};
+ghost use Rattle.ruleset_model.specs.Forms.{is_list_name_byte, is_list_name};
 ghost use Rattle.config_read.specs.Refusals.{IsAnswerOf};
 ghost use Rattle.config_read.specs.Members.{text_of};
-ghost use Rattle.config_read.specs.ListsOf.{is_one, form_table, is_list_name_byte, is_list_name, list_kind_of, IsItemOf, item_table, items_table, list_table, list_at, each_list_table, lists_table, front_table, lists_at, FrontIsSettled};
+ghost use Rattle.config_read.specs.ListsOf.{is_one, form_table, list_kind_of, IsItemOf, item_table, items_table, list_table, list_at, each_list_table, lists_table, front_table, lists_at, FrontIsSettled};
 
 use crate::fault::{Cause, ConfigFault};
 use crate::members::{an_object, array_or_none, needed_array, needed_text};
@@ -39,7 +42,7 @@ fn is_one(value: &Value) -> bool
 }
 
 /// The form of the document: 1 is the only one.
-fn form_of(alloc: Global, document: &Value) -> Result<(), ConfigFault>
+pub(crate) fn form_of(alloc: Global, document: &Value) -> Result<(), ConfigFault>
     ensures { IsAnswerOf result (form_table (view document.now)) }
 {
     match document.get("form") {
@@ -143,6 +146,8 @@ fn list_of(
 ) -> Result<ListPart, ConfigFault>
     ensures table { IsAnswerOf result (list_table lists.now earlier.now (view value.now)) }
     ensures value { IfOk result (λ list. list ≡ list_at (view value.now)) }
+    ensures new { IfOk result (λ list. is_named earlier.now list.name ≡ false) }
+    ensures kind { IfOk result (λ list. is_list_kind list.kind ≡ true) }
 {
     let place = nth(alloc, lists, earlier.len())?;
     let place = place.bytes();
@@ -177,9 +182,11 @@ fn list_of(
 }
 
 /// The lists of these elements.
+#[tactic(auto, using(crate::proofs::NamedLemmas::one_more, crate::proofs::NamedLemmas::none_named))]
 fn each_list(alloc: Global, place: &[u8], values: &[Value]) -> Result<ListParts, ConfigFault>
     ensures table { IsAnswerOf result (each_list_table place.now (map view values.now)) }
     ensures value { IfOk result (λ lists. lists ≡ map list_at (map view values.now)) }
+    ensures named { IfOk result (λ lists. AreLists (list_kinds_of lists)) }
 {
     let mut lists = Items::new(alloc);
     for value in values {
@@ -190,9 +197,10 @@ fn each_list(alloc: Global, place: &[u8], values: &[Value]) -> Result<ListParts,
 
 /// The lists of a document.
 #[tactic(auto, unfolding(crate::specs::ListsOf::lists_table))]
-fn lists_in(alloc: Global, document: &Value) -> Result<ListParts, ConfigFault>
+pub(crate) fn lists_in(alloc: Global, document: &Value) -> Result<ListParts, ConfigFault>
     ensures table { IsAnswerOf result (lists_table (view document.now)) }
     ensures value { IfOk result (λ lists. lists ≡ lists_at (view document.now)) }
+    ensures named { IfOk result (λ lists. AreLists (list_kinds_of lists)) }
 {
     let values = array_or_none(alloc, b"", "lists", document)?;
     refuse(

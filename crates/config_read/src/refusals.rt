@@ -1,4 +1,3 @@
-ghost use Rattle.std.specs.Prelude.{◌≡◌};
 ghost use Rattle.config_read.specs.Places.{child, nth};
 ghost use Rattle.config_read.specs.Refusals.{refuse, IsAnswerOf, Tells};
 
