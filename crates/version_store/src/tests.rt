@@ -9,6 +9,7 @@ use std::alloc::Global;
 use std::process::Abort;
 use std::sync::Wait;
 use std::test::Fail;
+use std::thread::{Threads, join};
 
 /// The last of the readers.
 fn last(deployer: &Deployer, readers: &mut Vec<VersionReader>) -> Option<VersionReader>
@@ -103,5 +104,56 @@ fn picks_are_refused_once_the_deployer_has_ended(rt: HostRuntime) -> Result<(), 
     let (deployer, mut reader) = one_reader(&rt, rt.alloc())?;
     deployer.end(&rt);
     assert!(rt; reader.pick().is_err());
+    Ok(())
+}
+
+const DEPLOYMENTS: u64 = 100;
+
+/// Picks so often that most deployments come between, and never a version before one that was picked.
+fn picks_on(rt: &impl Abort, reader: &mut VersionReader) -> u64 {
+    let mut latest = 0;
+    for _ in 0..2000 {
+        if let Ok(picked) = reader.pick() {
+            assert!(rt; picked.number >= latest && !picked.stopped);
+            latest = picked.number;
+        }
+    }
+    latest
+}
+
+/// Each of the two readers picks in a thread of its own.
+fn pick_in_two_threads<R: Abort + Threads + Sync>(
+    rt: &R,
+    first: &mut VersionReader,
+    second: &mut VersionReader,
+) {
+    join(rt, || picks_on(rt, first), || picks_on(rt, second));
+}
+
+fn deploys_on<R: Wait + Abort>(rt: &R, alloc: Global, deployer: &mut Deployer) -> bool {
+    for number in 0..DEPLOYMENTS {
+        if deploys(rt, alloc, deployer, number + 1).is_err() {
+            return false;
+        }
+    }
+    true
+}
+
+#[test]
+fn picks_of_two_threads_never_go_back(rt: HostRuntime) -> Result<(), Fail> {
+    let alloc = rt.alloc();
+    let (mut deployer, mut readers) = Versions::new(&rt, alloc, Config::empty(alloc)?, 2)?;
+    let (Some(mut first), Some(mut second)) = (readers.pop(), readers.pop()) else {
+        return Err(Memory.into());
+    };
+    let (all_deployed, _) = join(
+        &rt,
+        || deploys_on(&rt, alloc, &mut deployer),
+        || pick_in_two_threads(&rt, &mut first, &mut second),
+    );
+    assert!(rt; all_deployed);
+    picks(&rt, &mut first, DEPLOYMENTS, false)?;
+    picks(&rt, &mut second, DEPLOYMENTS, false)?;
+    deployer.end(&rt);
     Ok(())
 }
