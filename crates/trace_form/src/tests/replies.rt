@@ -1,5 +1,5 @@
 use super::name_of;
-use crate::{LineItem, Recorded, read_item};
+use crate::{LineFault, LineItem, Recorded, read_item};
 use edge_base::{Moment, Reply, Text};
 use std::alloc::Global;
 use std::test::Fail;
@@ -111,19 +111,26 @@ fn is_answered_at(recorded: &Recorded, moment: u64) -> bool {
     replied && recorded.request.at.get() == 7 && recorded.request.headers.is_empty()
 }
 
+fn is_read_at(read: &Result<LineItem, LineFault>, moment: u64) -> bool {
+    match read {
+        Ok(LineItem::Ask(recorded)) => is_answered_at(recorded, moment),
+        _ => false,
+    }
+}
+
+/// A reply to a request that came at 7, and when the reply came.
+const REPLIES: [(&str, u64); 2] = [
+    (r#"{"status":401,"headers":[["X-Left","2"]]}"#, 7),
+    (r#"{"headers":[["X-Left","2"]],"at":3,"status":401}"#, 3),
+];
+
 #[test]
 fn a_reply_is_read_whole(rt: HostRuntime) -> Result<(), Fail> {
     let alloc = rt.alloc();
-    for (reply, moment) in [
-        (r#"{"status":401,"headers":[["X-Left","2"]]}"#, 7),
-        (r#"{"headers":[["X-Left","2"]],"at":3,"status":401}"#, 3),
-    ] {
+    for (reply, moment) in &REPLIES {
         let line = line_with(alloc, "7", "10.0.0.1", reply)?;
-        let is_read = match read_item(alloc, line.as_bytes()) {
-            Ok(LineItem::Ask(recorded)) => is_answered_at(&recorded, moment),
-            _ => false,
-        };
-        assert!(rt; is_read, "{reply}");
+        let read = read_item(alloc, line.as_bytes());
+        assert!(rt; is_read_at(&read, *moment), "{reply}");
     }
     Ok(())
 }
