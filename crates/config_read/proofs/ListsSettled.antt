@@ -24,7 +24,7 @@ list_settled lists earlier d =
     (settled_then _ _ (settled_refuse _ _ _)
     (settled_each (item_table _ _) text_of (item_settled _ _) _ _))))))))
 
-lists_settled : (d : Data) → IsSettled (lists_table d)
+pub lists_settled : (d : Data) → IsSettled (lists_table d)
 unfolding lists_table
 lists_settled d =
     settled_then _ _ (settled_refuse _ _ _)

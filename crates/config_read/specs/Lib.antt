@@ -19,3 +19,5 @@ pub mod Ids
 pub mod Sets
 pub mod Here
 pub mod Reads
+pub mod Printed
+pub mod Prints

@@ -10,7 +10,7 @@ use Rattle.config_read.specs.declared.fault.Cause.TheVariants as cause
 use Rattle.config_read.specs.declared.fault.ConfigFault.{ConfigFault}
 use Rattle.config_read.specs.declared.fault.ConfigFault.TheVariants as fault
 use Rattle.config_read.specs.Places.{whole}
-use Rattle.config_read.specs.Refusals.{Refusal, Table, ◌▸◌, refuse, refuse_unless, Refuses}
+use Rattle.config_read.specs.Refusals.{Refusal, Table, ◌▸◌, refuse, refuse_unless, Refuses, IsSettled}
 use Rattle.config_read.specs.Members.{an_object}
 use Rattle.config_read.specs.Judged.{Judgement, judged, judged_without_patterns}
 use Rattle.config_read.specs.ListsOf.{form_table, lists_table, lists_at}
@@ -28,6 +28,10 @@ stands d = record { lists = lists_at d; rulesets = rulesets_at d }
 -- what of the document is refused first, patterns left out: none, or this
 abbrev pub IsFirstRefusal : Data → Option Refusal → Type 0
 IsFirstRefusal d = document_table judged_without_patterns d
+
+-- no document has two first refusals, nor one where nothing is refused
+abbrev pub FirstRefusalIsOne : Type 0
+FirstRefusalIsOne = (d : Data) → IsSettled (IsFirstRefusal d)
 
 -- what may be answered for a document: the configuration that it stands for, where nothing of it is refused, or what is
 -- refused first; a pattern may be refused before other things

@@ -13,12 +13,14 @@ mod headers;
 mod heads;
 mod ids;
 mod judging;
+mod laws;
 mod limits;
 mod lists;
 mod members;
 mod names;
 mod ordered;
 mod places;
+mod printing;
 mod reading;
 mod refusals;
 mod rewrites;
@@ -31,7 +33,9 @@ mod values;
 pub use action::Action;
 pub use document::{Document, document_of};
 pub use fault::{Cause, ConfigFault};
+pub use laws::first_refusal_is_one;
 pub use lists::{front_is_settled, lists_of};
+pub use printing::print_config;
 pub use reading::read_document;
 
 #[cfg(test)]

@@ -1,0 +1,15 @@
+//! How configurations are printed: a value for each part, and the text of the whole.
+
+mod document;
+mod dynamics;
+mod executions;
+mod limits;
+mod lists;
+mod rewrites;
+mod rules;
+mod skips;
+#[cfg(test)]
+mod tests;
+mod values;
+
+pub use document::print_config;
