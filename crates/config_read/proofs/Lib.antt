@@ -1,6 +1,9 @@
 pub mod AnswerLemmas
+pub mod BoolLemmas
 pub mod EachLemmas
 pub mod IdLemmas
+pub mod FilterLemmas
+pub mod FormedLemmas
 pub mod JudgedLemmas
 pub mod MappedLemmas
 pub mod MeantLemmas
@@ -28,3 +31,11 @@ pub mod PrintedDocument
 pub mod PrintedDepth
 pub mod PrintedTaken
 pub mod PrintedText
+pub mod ValidLists
+pub mod ValidOrder
+pub mod ValidBuilt
+pub mod ValidRewrites
+pub mod ValidExecutions
+pub mod ValidActs
+pub mod ValidLimits
+pub mod ValidRules

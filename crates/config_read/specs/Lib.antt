@@ -6,6 +6,7 @@ pub mod Forms
 pub mod ListsOf
 pub mod Names
 pub mod Judged
+pub mod Filters
 pub mod Values
 pub mod Blocks
 pub mod Skipped

@@ -50,6 +50,10 @@ abbrev pub entries_of : Members → List (List ℕ × Data)
 entries_of no_members = []
 entries_of (one_member name d rest) = (name, d) ∷ entries_of rest
 
+-- the names of members
+abbrev pub names_in : List (List ℕ × Data) → List (List ℕ)
+names_in given = map (λ (entry : List ℕ × Data). entry.0) given
+
 abbrev pub entries : List ℕ → Data → List (List ℕ × Data)
 entries name d = unwrap_or (option_map entries_of (option_and_then as_object (get name d))) []
 

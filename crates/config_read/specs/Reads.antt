@@ -4,7 +4,8 @@ use Rattle.serde_json.specs.Data.{Data}
 use Rattle.serde_json.specs.Read.{read}
 use Rattle.edge_fields.specs.declared.kind.Basic.{Basic}
 use Rattle.list_store.specs.Listed.{list_kinds_of}
-use Rattle.ruleset_model.specs.Data.{ConfigData, set_data}
+use Rattle.ruleset_model.specs.ConfigParts.{ConfigParts}
+use Rattle.ruleset_model.specs.Data.{ConfigData, set_data, config_data}
 use Rattle.config_read.specs.declared.document.Document.{Document}
 use Rattle.config_read.specs.declared.fault.Cause.TheVariants as cause
 use Rattle.config_read.specs.declared.fault.ConfigFault.{ConfigFault}
@@ -43,6 +44,11 @@ Reads d (Err e) = Refuses e (document_table judged d)
 abbrev pub given_of : Result Document ConfigFault → Result ConfigData ConfigFault
 given_of (Ok made) = Ok (record { lists = made.lists; rulesets = map set_data made.rulesets })
 given_of (Err e) = Err e
+
+-- the same of a configuration
+abbrev pub config_of : Result ConfigParts ConfigFault → Result ConfigData ConfigFault
+config_of (Ok config) = Ok (config_data config)
+config_of (Err e) = Err e
 
 -- the text is UTF-8, and is this JSON value
 abbrev pub IsJson : List ℕ → Data → Type 0

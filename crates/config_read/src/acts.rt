@@ -1,9 +1,11 @@
 ghost use Rattle.std.specs.Prelude.{◌≡◌, IfOk};
 ghost use Rattle.serde_json.specs.View.{view};
+ghost use Rattle.ruleset_model.specs.declared.phase.Phase.{Phase};
 ghost use Rattle.ruleset_model.specs.Data.{act_data, blocks, challenges, skips, rewrites, redirects};
 ghost use Rattle.config_read.specs.Sets.{data_of};
 ghost use Rattle.config_read.specs.Refusals.{IsAnswerOf};
 ghost use Rattle.config_read.specs.Judged.{judged};
+ghost use Rattle.config_read.specs.Filters.{Lists, IsActBuilt};
 ghost use Rattle.config_read.specs.Blocks.{block_table, block_at};
 ghost use Rattle.config_read.specs.Skipped.{skip_table, skips_at};
 ghost use Rattle.config_read.specs.Rewrites.{rewrite_at, redirect_at};
@@ -29,6 +31,7 @@ use std::alloc::Global;
 fn block(alloc: Global, phase: Phase, place: &[u8], value: &Value) -> Result<Act, ConfigFault>
     ensures table { IsAnswerOf result (optional_parameters block_table place.now (view value.now)) }
     ensures value { IfOk result (λ act. act_data act ≡ blocks (block_at phase (parameters (view value.now)))) }
+    ensures built { (lists : Lists) → IfOk result (IsActBuilt lists phase) }
 {
     match object_if_there(alloc, place, "action_parameters", value)? {
         Some(held) => {
@@ -50,6 +53,7 @@ fn unread(alloc: Global, place: &[u8], value: &Value) -> Result<(), ConfigFault>
 fn challenge(alloc: Global, plain: Plain, place: &[u8], value: &Value) -> Result<Act, ConfigFault>
     ensures table { IsAnswerOf result (optional_parameters unread place.now (view value.now)) }
     ensures value { IfOk result (λ act. act_data act ≡ challenges plain) }
+    ensures built { (lists : Lists) (phase : Phase) → IfOk result (IsActBuilt lists phase) }
 {
     unread(alloc, place, value)?;
     Ok(Act::Challenge(plain))
@@ -58,6 +62,7 @@ fn challenge(alloc: Global, plain: Plain, place: &[u8], value: &Value) -> Result
 fn skip(alloc: Global, place: &[u8], value: &Value) -> Result<Act, ConfigFault>
     ensures table { IsAnswerOf result (needed_parameters skip_table place.now (view value.now)) }
     ensures value { IfOk result (λ act. act_data act ≡ skips (skips_at (parameters (view value.now)))) }
+    ensures built { (lists : Lists) (phase : Phase) → IfOk result (IsActBuilt lists phase) }
 {
     let held = needed_object(alloc, place, "action_parameters", value)?;
     let inner = child(alloc, place, b"action_parameters")?;
@@ -73,6 +78,7 @@ fn execute(
 ) -> Result<Act, ConfigFault>
     ensures table { IsAnswerOf result (executions_table (data_of all.now) phase place.now (view value.now)) }
     ensures value { IfOk result (λ act. act_data act ≡ execution_at (data_of all.now) (parameters (view value.now))) }
+    ensures built { (lists : Lists) → IfOk result (IsActBuilt lists phase) }
 {
     let held = needed_object(alloc, place, "action_parameters", value)?;
     let inner = child(alloc, place, b"action_parameters")?;
@@ -89,6 +95,7 @@ fn rewrite(
 ) -> Result<Act, ConfigFault>
     ensures table { IsAnswerOf result (rewrites_table (judged scheme.now) phase place.now (view value.now)) }
     ensures value { IfOk result (λ act. act_data act ≡ rewrites (rewrite_at (parameters (view value.now)))) }
+    ensures built { IfOk result (IsActBuilt scheme.now phase) }
 {
     let held = needed_object(alloc, place, "action_parameters", value)?;
     let inner = child(alloc, place, b"action_parameters")?;
@@ -104,6 +111,7 @@ fn redirect(
 ) -> Result<Act, ConfigFault>
     ensures table { IsAnswerOf result (redirects_table (judged scheme.now) phase place.now (view value.now)) }
     ensures value { IfOk result (λ act. act_data act ≡ redirects (redirect_at (parameters (view value.now)))) }
+    ensures built { IfOk result (IsActBuilt scheme.now phase) }
 {
     let held = needed_object(alloc, place, "action_parameters", value)?;
     let inner = child(alloc, place, b"action_parameters")?;
@@ -122,6 +130,7 @@ pub(crate) fn act_of(
 ) -> Result<Act, ConfigFault>
     ensures table { IsAnswerOf result (parameters_here scheme.now all.now phase action place.now value.now) }
     ensures value { IfOk result (λ act. act_data act ≡ act_of_rule (data_of all.now) phase action (view value.now)) }
+    ensures built { IfOk result (IsActBuilt scheme.now phase) }
 {
     match action {
         Action::Block => block(alloc, phase, place, value),

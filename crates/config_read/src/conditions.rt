@@ -4,6 +4,7 @@ ghost use Rattle.ruleset_model.specs.Phases.{condition_place};
 ghost use Rattle.config_read.specs.Refusals.{IsAnswerOf};
 ghost use Rattle.config_read.specs.Members.{text};
 ghost use Rattle.config_read.specs.Judged.{judged};
+ghost use Rattle.config_read.specs.Filters.{IsFilterOf};
 ghost use Rattle.config_read.specs.RulesOf.{condition_table};
 
 use crate::fault::ConfigFault;
@@ -45,6 +46,7 @@ pub(crate) fn condition_of(
 ) -> Result<Condition, ConfigFault>
     ensures table { IsAnswerOf result (condition_table (judged scheme.now) phase place.now (view value.now)) }
     ensures value { IfOk result (λ made. made.source ≡ text (codes "expression") (view value.now)) }
+    ensures built { IfOk result (λ made. IsFilterOf scheme.now (condition_place phase) made.source made.filter) }
 {
     let source = needed_text(alloc, place, "expression", value)?;
     let at = condition_place(phase);

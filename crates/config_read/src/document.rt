@@ -5,6 +5,7 @@ ghost use Rattle.serde_json.specs.View.{view};
 ghost use Rattle.ruleset_model.specs.Data.{set_data};
 ghost use Rattle.config_read.specs.Refusals.{IsAnswerOf};
 ghost use Rattle.config_read.specs.Judged.{judged};
+ghost use Rattle.config_read.specs.Filters.{AreRulesetsBuilt};
 ghost use Rattle.config_read.specs.ListsOf.{lists_at};
 ghost use Rattle.config_read.specs.RulesetsOf.{rulesets_at};
 ghost use Rattle.config_read.specs.Reads.{document_table, Reads, given_of};
@@ -49,10 +50,11 @@ fn scheme_of(alloc: Global, lists: &[ListPart]) -> Result<Scheme, Memory>
 }
 
 #[tactic(auto, unfolding(crate::specs::Reads::document_table))]
-fn document_in(alloc: Global, value: &Value) -> Result<Document, ConfigFault>
+pub(crate) fn document_in(alloc: Global, value: &Value) -> Result<Document, ConfigFault>
     ensures table { IsAnswerOf result (document_table judged (view value.now)) }
     ensures lists { IfOk result (λ made. made.lists ≡ lists_at (view value.now)) }
     ensures rulesets { IfOk result (λ made. map set_data made.rulesets ≡ rulesets_at (view value.now)) }
+    ensures built { IfOk result (λ made. AreRulesetsBuilt (list_kinds_of made.lists) made.rulesets) }
 {
     an_object(alloc, b"/", value)?;
     form_of(alloc, value)?;

@@ -1,5 +1,5 @@
 ghost use Rattle.std.specs.Prelude.{◌≡◌, map, codes, IfOk};
-ghost use Rattle.std.specs.List.{list_all};
+ghost use Rattle.std.specs.List.{list_all, AllByRecursion};
 ghost use Rattle.serde_json.specs.View.{view};
 ghost use Rattle.ruleset_model.specs.Data.{header_data, operation_data};
 ghost use Rattle.ruleset_model.specs.Forms.{is_token_byte};
@@ -9,6 +9,7 @@ ghost use Rattle.config_read.specs.Forms.{is_token, is_fixed_header, is_operatio
 ghost use Rattle.config_read.specs.Judged.{judged};
 ghost use Rattle.config_read.specs.Rewrites.{lower, has_own_header, has_header, name_table, operation_table, operation_at, header_at, each_header_table, headers_table, headers_at};
 ghost use Rattle.config_read.specs.Here.{header_here};
+ghost use Rattle.config_read.specs.Filters.{IsOperationBuilt, IsHeaderBuilt};
 
 use crate::fault::{Cause, ConfigFault};
 use crate::members::{Entry, an_object};
@@ -126,6 +127,7 @@ fn operation_of(
 ) -> Result<Operation, ConfigFault>
     ensures table { IsAnswerOf result (operation_table (judged scheme.now) at place.now (view value.now)) }
     ensures value { IfOk result (λ made. operation_data made ≡ operation_at (view value.now)) }
+    ensures built { IfOk result (IsOperationBuilt scheme.now at) }
 {
     let name = needed_operation(alloc, place, value)?;
     if name == b"remove".as_slice() {
@@ -152,6 +154,7 @@ fn header_of(
 ) -> Result<HeaderRewrite, ConfigFault>
     ensures table { IsAnswerOf result (header_here scheme.now at headers.now earlier.now name.now value.now) }
     ensures value { IfOk result (λ made. header_data made ≡ header_at (name.now, view value.now)) }
+    ensures built { IfOk result (IsHeaderBuilt scheme.now at) }
 {
     let place = child(alloc, headers, name)?;
     let place = place.bytes();
@@ -173,6 +176,7 @@ fn each_header(
 ) -> Result<HeaderRewrites, ConfigFault>
     ensures table { IsAnswerOf result (each_header_table (judged scheme.now) at place.now (map shown entries.now)) }
     ensures value { IfOk result (λ made. map header_data made ≡ map header_at (map shown entries.now)) }
+    ensures built { IfOk result (AllByRecursion (IsHeaderBuilt scheme.now at)) }
 {
     let mut made = Items::new(alloc);
     for entry in entries {
@@ -193,6 +197,7 @@ pub(crate) fn headers_of(
 ) -> Result<HeaderRewrites, ConfigFault>
     ensures table { IsAnswerOf result (headers_table (judged scheme.now) at place.now (view value.now)) }
     ensures value { IfOk result (λ made. map header_data made ≡ headers_at (view value.now)) }
+    ensures built { IfOk result (AllByRecursion (IsHeaderBuilt scheme.now at)) }
 {
     let entries = entries_in_order(alloc, value)?;
     each_header(alloc, scheme, at, place, entries.as_slice())

@@ -5,6 +5,10 @@ ghost use Rattle.config_read.specs.Places.{child};
 ghost use Rattle.config_read.specs.Refusals.{IsAnswerOf};
 ghost use Rattle.config_read.specs.Judged.{parse_cause, type_cause, unfit_of, ChecksTree, Judges, judged, expression};
 ghost use Rattle.config_read.specs.Limits.{characteristic};
+ghost use Rattle.config_read.specs.Filters.{IsTypedOf, IsReadAndTyped, IsFilterOf};
+ghost use Rattle.config_read.specs.Filters.{IsCountingBuilt, IsCharacteristicBuilt};
+ghost use Rattle.ruleset_model.specs.Built.{speaks_of_reply};
+ghost use Rattle.type_check.specs.Trees.{tree_of};
 
 use crate::fault::{Cause, ConfigFault};
 use crate::refusals::{member_refusal, refusal};
@@ -65,7 +69,8 @@ fn unread(fault: ParseFault) -> Unfit
 
 /// Checks an expression where it stands.
 fn checked(alloc: Global, scheme: &Scheme, at: Place, tree: &Expr) -> Result<Typed, Unfit>
-    ensures { ChecksTree (findings_of scheme.now at tree.now) result }
+    ensures answer { ChecksTree (findings_of scheme.now at tree.now) result }
+    ensures typed { IfOk result (IsTypedOf scheme.now at tree.now) }
 {
     match check(alloc, scheme, tree, at) {
         Ok(typed) => Ok(typed),
@@ -76,7 +81,8 @@ fn checked(alloc: Global, scheme: &Scheme, at: Place, tree: &Expr) -> Result<Typ
 
 /// Reads a text, and checks it where it stands.
 fn judge(alloc: Global, scheme: &Scheme, at: Place, text: &[u8]) -> Result<Typed, Unfit>
-    ensures { Judges (judged scheme.now at text.now) result }
+    ensures answer { Judges (judged scheme.now at text.now) result }
+    ensures typed { IfOk result (IsReadAndTyped scheme.now at text.now) }
 {
     match parse(alloc, text) {
         Ok(tree) => checked(alloc, scheme, at, &tree),
@@ -93,7 +99,8 @@ pub(crate) fn filter_of(
     name: &str,
     text: &[u8],
 ) -> Result<Filter, ConfigFault>
-    ensures { IsAnswerOf result (expression (judged scheme.now at) (child place.now name.now) text.now) }
+    ensures table { IsAnswerOf result (expression (judged scheme.now at) (child place.now name.now) text.now) }
+    ensures built { IfOk result (IsFilterOf scheme.now at text.now) }
 {
     match judge(alloc, scheme, at, text) {
         Ok(typed) => Ok(Filter::of(typed)),
@@ -104,7 +111,9 @@ pub(crate) fn filter_of(
 
 /// Checks what a limit counts, and says whether that speaks of the reply.
 fn checked_counting(alloc: Global, scheme: &Scheme, tree: &Expr) -> Result<(Typed, bool), Unfit>
-    ensures { ChecksTree (findings_of scheme.now stand.Count tree.now) result }
+    ensures answer { ChecksTree (findings_of scheme.now stand.Count tree.now) result }
+    ensures typed { IfOk result (λ made. IsTypedOf scheme.now stand.Count tree.now made.0) }
+    ensures reply { IfOk result (λ made. made.1 ≡ speaks_of_reply (tree_of made.0.root)) }
 {
     match checked(alloc, scheme, Place::Count, tree) {
         Ok(typed) => Ok((typed, speaks_of_reply(tree))),
@@ -115,7 +124,9 @@ fn checked_counting(alloc: Global, scheme: &Scheme, tree: &Expr) -> Result<(Type
 
 /// What a limit counts by a text, and whether that speaks of the reply.
 fn judge_counting(alloc: Global, scheme: &Scheme, text: &[u8]) -> Result<(Typed, bool), Unfit>
-    ensures { Judges (judged scheme.now stand.Count text.now) result }
+    ensures answer { Judges (judged scheme.now stand.Count text.now) result }
+    ensures typed { IfOk result (λ made. IsReadAndTyped scheme.now stand.Count text.now made.0) }
+    ensures reply { IfOk result (λ made. made.1 ≡ speaks_of_reply (tree_of made.0.root)) }
 {
     match parse(alloc, text) {
         Ok(tree) => checked_counting(alloc, scheme, &tree),
@@ -133,6 +144,7 @@ pub(crate) fn counting_of(
 ) -> Result<Counting, ConfigFault>
     ensures table { IsAnswerOf result (expression (judged scheme.now stand.Count) (child place.now name.now) text.now) }
     ensures value { IfOk result (λ made. made.source ≡ text.now) }
+    ensures built { IfOk result (IsCountingBuilt scheme.now) }
 {
     match judge_counting(alloc, scheme, text) {
         Ok((typed, reply)) => Ok(Counting {
@@ -154,6 +166,7 @@ pub(crate) fn characteristic_of(
 ) -> Result<Characteristic, ConfigFault>
     ensures table { IsAnswerOf result (characteristic (judged scheme.now) place.now text.now) }
     ensures value { IfOk result (λ made. made.source ≡ text.now) }
+    ensures built { IfOk result (IsCharacteristicBuilt scheme.now) }
 {
     match judge(alloc, scheme, Place::Characteristic, text) {
         Ok(typed) => Ok(Characteristic {

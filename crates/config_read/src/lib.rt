@@ -6,6 +6,7 @@ mod action;
 mod acts;
 mod blocks;
 mod conditions;
+mod config;
 mod document;
 mod executions;
 mod fault;
@@ -31,6 +32,7 @@ mod skipping;
 mod values;
 
 pub use action::Action;
+pub use config::{config_of, read_config};
 pub use document::{Document, document_of};
 pub use fault::{Cause, ConfigFault};
 pub use laws::first_refusal_is_one;

@@ -1,4 +1,4 @@
-ghost use Rattle.std.specs.Prelude.{◌≡◌, ◌≤◌, map, codes, option_map, Some, is_some, is_none, IfOk};
+ghost use Rattle.std.specs.Prelude.{◌≡◌, ◌≤◌, map, codes, option_map, Some, is_some, is_none, IfOk, IfSome};
 ghost use Rattle.serde_json.specs.View.{view};
 ghost use Rattle.serde_json.specs.Find.{as_str};
 ghost use Rattle.type_check.specs.declared.fault.Place.TheVariants as stand;
@@ -8,6 +8,8 @@ ghost use Rattle.config_read.specs.Places.{child};
 ghost use Rattle.config_read.specs.Refusals.{IsAnswerOf, refuse};
 ghost use Rattle.config_read.specs.Members.{text_of, texts};
 ghost use Rattle.config_read.specs.Judged.{judged};
+ghost use Rattle.config_read.specs.Filters.{IsCharacteristicBuilt, IsCountingBuilt, IsLimitBuilt};
+ghost use Rattle.std.specs.List.{AllByRecursion};
 ghost use Rattle.config_read.specs.Forms.{integer, number_within};
 ghost use Rattle.config_read.specs.Limits.{number_table, one_characteristic_table, ranged, needed_ranged, characteristic_source, each_characteristic_table, is_miscounted, characteristics_table, typed_counting, counting_source, filled, counting_at, milliseconds, numbers_table, period_at, threshold_at, timeout_at, held_limit_table, held_limit_at, is_limited, limit_table, limit_at, number_or, sources_of, counting_table};
 ghost use Rattle.config_read.specs.Here.{characteristic_here};
@@ -137,6 +139,7 @@ fn characteristic_at(
 ) -> Result<Characteristic, ConfigFault>
     ensures table { IsAnswerOf result (one_characteristic_table (judged scheme.now) place.now (view value.now)) }
     ensures value { IfOk result (λ made. characteristic_source made ≡ text_of (view value.now)) }
+    ensures built { IfOk result (IsCharacteristicBuilt scheme.now) }
 {
     let text = whole_text(alloc, place, value)?;
     Ok(characteristic_of(alloc, scheme, place, text)?)
@@ -153,6 +156,7 @@ fn characteristic_in(
 ) -> Result<Characteristic, ConfigFault>
     ensures table { IsAnswerOf result (characteristic_here scheme.now items.now earlier.now value.now) }
     ensures value { IfOk result (λ made. characteristic_source made ≡ text_of (view value.now)) }
+    ensures built { IfOk result (IsCharacteristicBuilt scheme.now) }
 {
     let place = nth(alloc, items, earlier.len())?;
     characteristic_at(alloc, scheme, place.bytes(), value)
@@ -166,6 +170,7 @@ fn each_characteristic(
 ) -> Result<Characteristics, ConfigFault>
     ensures table { IsAnswerOf result (each_characteristic_table (judged scheme.now) place.now (map view values.now)) }
     ensures value { IfOk result (λ made. sources_of made ≡ map text_of (map view values.now)) }
+    ensures built { IfOk result (AllByRecursion (IsCharacteristicBuilt scheme.now)) }
 {
     let mut made = Items::new(alloc);
     for value in values {
@@ -190,6 +195,7 @@ fn characteristics_of(
 ) -> Result<Characteristics, ConfigFault>
     ensures table { IsAnswerOf result (characteristics_table (judged scheme.now) place.now (view value.now)) }
     ensures value { IfOk result (λ made. sources_of made ≡ texts (codes "characteristics") (view value.now)) }
+    ensures built { IfOk result (AllByRecursion (IsCharacteristicBuilt scheme.now)) }
 {
     let values = needed_array(alloc, place, "characteristics", value)?;
     refuse(
@@ -212,6 +218,7 @@ fn counting_by(
 ) -> Result<Option<Counting>, ConfigFault>
     ensures table { IsAnswerOf result (counting_table (judged scheme.now) place.now text.now) }
     ensures value { IfOk result (λ made. option_map counting_source made ≡ filled text.now) }
+    ensures built { IfOk result (λ made. IfSome made (IsCountingBuilt scheme.now)) }
 {
     if text.is_empty() {
         return Ok(None);
@@ -228,6 +235,7 @@ fn counting_in(
 ) -> Result<Option<Counting>, ConfigFault>
     ensures table { IsAnswerOf result (typed_counting (judged scheme.now) place.now (view value.now)) }
     ensures value { IfOk result (λ made. option_map counting_source made ≡ counting_at (view value.now)) }
+    ensures built { IfOk result (λ made. IfSome made (IsCountingBuilt scheme.now)) }
 {
     let text = text_or(alloc, place, "counting_expression", value, b"")?;
     Ok(counting_by(alloc, scheme, place, text)?)
@@ -277,6 +285,7 @@ fn limit_in(
 ) -> Result<Limit, ConfigFault>
     ensures table { IsAnswerOf result (held_limit_table (judged scheme.now) place.now (view value.now)) }
     ensures value { IfOk result (λ made. limit_data made ≡ held_limit_at (view value.now)) }
+    ensures built { IfOk result (IsLimitBuilt scheme.now) }
 {
     let has_score = value.get("score_per_period").is_some();
     refuse(alloc, has_score, place, "score_per_period", Cause::BadLimit)?;
@@ -310,6 +319,7 @@ pub(crate) fn limit_of(
 ) -> Result<Option<Limit>, ConfigFault>
     ensures table { IsAnswerOf result (limit_table (judged scheme.now) phase action place.now (view value.now)) }
     ensures value { IfOk result (λ made. option_map limit_data made ≡ limit_at (view value.now)) }
+    ensures built { IfOk result (λ made. IfSome made (IsLimitBuilt scheme.now)) }
 {
     if is_limited(phase, action) {
         let held = needed_object(alloc, place, "ratelimit", value)?;

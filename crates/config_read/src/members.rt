@@ -1,8 +1,9 @@
-ghost use Rattle.std.specs.Prelude.{◌≡◌, map, option_map, option_and_then, Some, IfOk};
+ghost use Rattle.std.specs.Prelude.{◌≡◌, map, option_map, option_and_then, Some, IfOk, OnOk};
 ghost use Rattle.serde_json.specs.View.{view, members_view};
 ghost use Rattle.serde_json.specs.Find.{get, as_str, as_bool, as_array, as_object};
+ghost use Rattle.ruleset_model.specs.Acts.{AreInOrder};
 ghost use Rattle.config_read.specs.Refusals.{IsAnswerOf};
-ghost use Rattle.config_read.specs.Members.{list_of, text_of, text, texts, elements, value_or, entries_of, entries, shown, an_object, needed, typed, needed_text, needed_array, needed_object, a_text, each_text, typed_texts, text_at};
+ghost use Rattle.config_read.specs.Members.{list_of, text_of, text, texts, elements, value_or, entries_of, entries, names_in, shown, an_object, needed, typed, needed_text, needed_array, needed_object, a_text, each_text, typed_texts, text_at};
 
 use crate::fault::{Cause, ConfigFault};
 use crate::places::child;
@@ -292,7 +293,8 @@ pub(crate) fn entries_of<'v>(
     alloc: Global,
     members: &'v Map<String, Value>,
 ) -> Result<Vec<Entry<'v>>, Memory>
-    ensures { IfOk result (λ found. map shown found.items ≡ entries_of (members_view members.now.entries)) }
+    ensures value { IfOk result (λ found. map shown found.items ≡ entries_of (members_view members.now.entries)) }
+    ensures ordered { OnOk result (AreInOrder (names_in (entries_of (members_view members.now.entries)))) }
 {
     let mut found = Vec::new(alloc);
     for (name, value) in members.iter() {
@@ -302,6 +304,7 @@ pub(crate) fn entries_of<'v>(
 }
 
 /// The members of a member that is an object, by default none.
+#[tactic(auto, using(crate::proofs::MemberLemmas::absent_ordered, crate::proofs::MemberLemmas::held_ordered))]
 pub(crate) fn entries_or_none<'v>(
     alloc: Global,
     place: &[u8],
@@ -310,6 +313,7 @@ pub(crate) fn entries_or_none<'v>(
 ) -> Result<Vec<Entry<'v>>, ConfigFault>
     ensures table { IsAnswerOf result (typed as_object place.now name.now (view value.now)) }
     ensures value { IfOk result (λ found. map shown found.items ≡ entries name.now (view value.now)) }
+    ensures ordered { OnOk result (AreInOrder (names_in (entries name.now (view value.now)))) }
 {
     let Some(member) = value.get(name) else {
         return Ok(Vec::new(alloc));

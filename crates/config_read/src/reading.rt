@@ -29,7 +29,7 @@ fn fault_of(alloc: Global, error: &Error) -> ConfigFault
 }
 
 /// The JSON value that the bytes are.
-fn value_of(alloc: Global, bytes: &[u8]) -> Result<Value, ConfigFault>
+pub(crate) fn value_of(alloc: Global, bytes: &[u8]) -> Result<Value, ConfigFault>
     ensures table { IsAnswerOf result (bytes_table bytes.now) }
     ensures value { IfOk result (λ value. IsJson bytes.now (view value)) }
 {

@@ -9,6 +9,7 @@ ghost use Rattle.config_read.specs.Members.{typed};
 ghost use Rattle.config_read.specs.Forms.{redirect_status};
 ghost use Rattle.config_read.specs.Judged.{judged};
 ghost use Rattle.config_read.specs.Rewrites.{uri_table, uri_at, other_part, uri_parts_table, headers_parts_table, rewrite_table, rewrite_at, target_table, target_at, redirect_table, redirect_at, redirect_status_at};
+ghost use Rattle.config_read.specs.Filters.{IsDynamicBuilt, IsUriBuilt, IsRewriteBuilt};
 
 use crate::fault::{Cause, ConfigFault};
 use crate::headers::headers_of;
@@ -44,6 +45,7 @@ fn uri_of(
 ) -> Result<UriRewrite, ConfigFault>
     ensures table { IsAnswerOf result (uri_table (judged scheme.now) at place.now (view value.now)) }
     ensures value { IfOk result (λ made. uri_data made ≡ uri_at (view value.now)) }
+    ensures built { IfOk result (IsUriBuilt scheme.now at) }
 {
     let path = dynamic_if_there(alloc, scheme, at, place, "path", value)?;
     let query = dynamic_if_there(alloc, scheme, at, place, "query", value)?;
@@ -71,6 +73,7 @@ fn uri_parts(
 ) -> Result<Rewrite, ConfigFault>
     ensures table { IsAnswerOf result (uri_parts_table (judged scheme.now) at place.now (view value.now)) }
     ensures value { IfOk result (λ made. rewrite_data made ≡ rewrite_at (view value.now)) }
+    ensures built { IfOk result (IsRewriteBuilt scheme.now at) }
 {
     let held = needed_object(alloc, place, "uri", value)?;
     let inner = child(alloc, place, b"uri")?;
@@ -92,6 +95,7 @@ fn headers_parts(
 ) -> Result<Rewrite, ConfigFault>
     ensures table { IsAnswerOf result (headers_parts_table (judged scheme.now) at place.now (view value.now)) }
     ensures value { IfOk result (λ made. rewrite_data made ≡ rewrite_at (view value.now)) }
+    ensures built { IfOk result (IsRewriteBuilt scheme.now at) }
 {
     other_part(alloc, place, "uri", value)?;
     let held = needed_object(alloc, place, "headers", value)?;
@@ -120,6 +124,7 @@ pub(crate) fn rewrite_of(
 ) -> Result<Rewrite, ConfigFault>
     ensures table { IsAnswerOf result (rewrite_table (judged scheme.now) phase place.now (view value.now)) }
     ensures value { IfOk result (λ made. rewrite_data made ≡ rewrite_at (view value.now)) }
+    ensures built { IfOk result (IsRewriteBuilt scheme.now (value_place phase)) }
 {
     let at = value_place(phase);
     if rewrites_uri(phase) {
@@ -173,6 +178,7 @@ fn target_of(
 ) -> Result<Redirect, ConfigFault>
     ensures table { IsAnswerOf result (target_table (judged scheme.now) at place.now (view value.now)) }
     ensures value { IfOk result (λ made. redirect_data made ≡ target_at (view value.now)) }
+    ensures built { IfOk result (λ made. IsDynamicBuilt scheme.now at made.target_url) }
 {
     let status_code = status_of(alloc, place, value)?;
     let target_url = needed_dynamic(alloc, scheme, at, place, "target_url", value)?;
@@ -195,6 +201,7 @@ pub(crate) fn redirect_of(
 ) -> Result<Redirect, ConfigFault>
     ensures table { IsAnswerOf result (redirect_table (judged scheme.now) phase place.now (view value.now)) }
     ensures value { IfOk result (λ made. redirect_data made ≡ redirect_at (view value.now)) }
+    ensures built { IfOk result (λ made. IsDynamicBuilt scheme.now (value_place phase) made.target_url) }
 {
     let held = needed_object(alloc, place, "from_value", value)?;
     let inner = child(alloc, place, b"from_value")?;

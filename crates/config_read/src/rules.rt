@@ -1,9 +1,10 @@
-ghost use Rattle.std.specs.Prelude.{◌≡◌, map, option_map, IfOk};
+ghost use Rattle.std.specs.Prelude.{◌≡◌, map, option_map, IfOk, IfSome};
 ghost use Rattle.serde_json.specs.View.{view};
 ghost use Rattle.ruleset_model.specs.Data.{act_data, limit_data, rule_data};
 ghost use Rattle.config_read.specs.Sets.{data_of};
 ghost use Rattle.config_read.specs.Refusals.{IsAnswerOf};
 ghost use Rattle.config_read.specs.RulesOf.{action_table, action_at, rule_at, act_at, rules_at};
+ghost use Rattle.config_read.specs.Filters.{IsActBuilt, IsLimitBuilt, IsRuleBuilt, AreRulesBuilt};
 ghost use Rattle.config_read.specs.Limits.{limit_at};
 ghost use Rattle.config_read.specs.Here.{deed_here, rule_here, rules_here};
 
@@ -75,6 +76,8 @@ fn deed_of(
     ensures table { IsAnswerOf result (deed_here scheme.now all.now kind phase place.now value.now) }
     ensures act { IfOk result (λ deed. act_data deed.act ≡ act_at (data_of all.now) phase (view value.now)) }
     ensures limit { IfOk result (λ deed. option_map limit_data deed.limit ≡ limit_at (view value.now)) }
+    ensures act_built { IfOk result (λ deed. IsActBuilt scheme.now phase deed.act) }
+    ensures limit_built { IfOk result (λ deed. IfSome deed.limit (IsLimitBuilt scheme.now)) }
 {
     let action = action_in(alloc, kind, phase, place, value)?;
     let act = act_of(alloc, scheme, all, phase, action, place, value)?;
@@ -96,6 +99,7 @@ fn rule_of(
 ) -> Result<Rule, ConfigFault>
     ensures table { IsAnswerOf result (rule_here scheme.now all.now kind phase rules.now earlier.now.rules.now value.now) }
     ensures value { IfOk result (λ rule. rule_data rule ≡ rule_at (data_of all.now) phase (view value.now)) }
+    ensures built { IfOk result (IsRuleBuilt scheme.now phase) }
 {
     let place = nth(alloc, rules, earlier.rules.len())?;
     let place = place.bytes();
@@ -136,6 +140,7 @@ pub(crate) fn each_rule<'v>(
 ) -> Result<Rules, ConfigFault>
     ensures table { IsAnswerOf result (rules_here scheme.now all.now kind phase place.now values.now) }
     ensures value { IfOk result (λ made. map rule_data made ≡ rules_at (data_of all.now) phase (map view values.now)) }
+    ensures built { IfOk result (AreRulesBuilt scheme.now phase) }
 {
     let mut rules = Items::new(alloc);
     let mut ids = BTreeMap::new(alloc);

@@ -8,6 +8,7 @@ ghost use Rattle.config_read.specs.Judged.{judged};
 ghost use Rattle.config_read.specs.Ids.{AreSetIdsOf};
 ghost use Rattle.config_read.specs.RulesetsOf.{has_ruleset, has_own_entry, has_entry, kind_table, phase_table, set_head_table, kind_at, set_phase_at, rules_of, ruleset_at, has_many_rules, rulesets_table, rulesets_at, rules_under};
 ghost use Rattle.config_read.specs.Here.{rules_under_here, ruleset_here, rulesets_here};
+ghost use Rattle.config_read.specs.Filters.{AreRulesBuilt, IsRulesetBuilt, AreRulesetsBuilt};
 
 use crate::fault::{Cause, ConfigFault};
 use crate::heads::id_of;
@@ -143,6 +144,7 @@ fn rules_of(
 ) -> Result<Rules, ConfigFault>
     ensures table { IsAnswerOf result (rules_under_here scheme.now all.now kind phase place.now value.now) }
     ensures value { IfOk result (λ made. map rule_data made ≡ rules_under (data_of all.now) phase (view value.now)) }
+    ensures built { IfOk result (AreRulesBuilt scheme.now phase) }
 {
     let values = array_or_none(alloc, place, "rules", value)?;
     refuse(
@@ -168,6 +170,7 @@ fn ruleset_of(
 ) -> Result<Ruleset, ConfigFault>
     ensures table { IsAnswerOf result (ruleset_here scheme.now all.now rulesets.now earlier.now.sets.now value.now) }
     ensures value { IfOk result (λ set. set_data set ≡ ruleset_at (data_of all.now) (view value.now)) }
+    ensures built { IfOk result (IsRulesetBuilt scheme.now) }
 {
     let place = nth(alloc, rulesets, earlier.sets.len())?;
     let place = place.bytes();
@@ -197,6 +200,7 @@ fn each_ruleset(
 ) -> Result<Rulesets, ConfigFault>
     ensures table { IsAnswerOf result (rulesets_here scheme.now all.now place.now) }
     ensures value { IfOk result (λ made. map set_data made ≡ map (ruleset_at (data_of all.now)) (data_of all.now)) }
+    ensures built { IfOk result (AreRulesetsBuilt scheme.now) }
 {
     let mut sets = Items::new(alloc);
     let mut ids = BTreeMap::new(alloc);
@@ -249,6 +253,7 @@ pub(crate) fn rulesets_of(
 ) -> Result<Rulesets, ConfigFault>
     ensures table { IsAnswerOf result (rulesets_table (judged scheme.now) (view document.now)) }
     ensures value { IfOk result (λ sets. map set_data sets ≡ rulesets_at (view document.now)) }
+    ensures built { IfOk result (AreRulesetsBuilt scheme.now) }
 {
     let all = array_or_none(alloc, b"", "rulesets", document)?;
     let is_crowded = MAX_RULESETS < all.len() || has_many_rules(all);

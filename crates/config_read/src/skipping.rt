@@ -4,6 +4,8 @@ ghost use Rattle.serde_json.specs.Find.{get};
 ghost use Rattle.config_read.specs.Refusals.{IsAnswerOf};
 ghost use Rattle.config_read.specs.Members.{elements, entries, typed, shown};
 ghost use Rattle.config_read.specs.Forms.{current};
+ghost use Rattle.config_read.specs.Filters.{skipped_names};
+ghost use Rattle.ruleset_model.specs.Acts.{AreInOrder};
 ghost use Rattle.config_read.specs.Skipped.{phase_table, phase_at, phases_table, skipped_table, skipped_at, each_skipped_table, typed_phases, typed_skipped, skip_table, skips_at};
 
 use crate::fault::{Cause, ConfigFault};
@@ -113,9 +115,11 @@ fn phases_in(alloc: Global, place: &[u8], value: &Value) -> Result<Phases, Confi
 }
 
 /// The single rules that are skipped, in byte order of the rulesets' ids.
+#[tactic(auto, using(crate::proofs::MemberLemmas::rules_ordered))]
 fn skipped_in(alloc: Global, place: &[u8], value: &Value) -> Result<SkippedRules, ConfigFault>
     ensures table { IsAnswerOf result (typed_skipped place.now (view value.now)) }
     ensures value { IfOk result (λ rules. rules ≡ map skipped_at (entries (codes "rules") (view value.now))) }
+    ensures ordered { IfOk result (λ rules. AreInOrder (skipped_names rules)) }
 {
     let entries = entries_or_none(alloc, place, "rules", value)?;
     each_skipped(
@@ -130,6 +134,7 @@ fn skipped_in(alloc: Global, place: &[u8], value: &Value) -> Result<SkippedRules
 pub(crate) fn skips_of(alloc: Global, place: &[u8], value: &Value) -> Result<Skips, ConfigFault>
     ensures table { IsAnswerOf result (skip_table place.now (view value.now)) }
     ensures value { IfOk result (λ made. made ≡ skips_at (view value.now)) }
+    ensures ordered { IfOk result (λ made. AreInOrder (skipped_names made.rules)) }
 {
     let current = current_of(alloc, place, value)?;
     let phases = phases_in(alloc, place, value)?;

@@ -1,6 +1,7 @@
 use crate::places::{child, nth};
-use crate::{ConfigFault, Document, document_of};
+use crate::{ConfigFault, config_of, print_config, read_config};
 use edge_base::{Memory, Text, TextBuilder};
+use ruleset_model::Ruleset;
 use serde_json::Value;
 use std::alloc::Global;
 use std::test::Fail;
@@ -323,21 +324,36 @@ const OF_REDIRECT: [&str; 2] = [
 ];
 
 /// How many rulesets and how many rules there are.
-fn push_counts(out: &mut TextBuilder, read: &Document) -> Result<(), Memory> {
+fn push_counts(out: &mut TextBuilder, sets: &[Ruleset]) -> Result<(), Memory> {
     let mut rules: usize = 0;
-    for set in read.rulesets.as_slice() {
+    for set in sets {
         rules = rules.saturating_add(set.rules.len());
     }
     out.push(b"ok ")?;
-    out.push_number(read.rulesets.len() as u64)?;
+    out.push_number(sets.len() as u64)?;
     out.push(b" ")?;
     out.push_number(rules as u64)
 }
 
-/// What is told of a document.
+/// Whether the text of a configuration is read to one with the same text.
+fn is_read_again(alloc: Global, text: &[u8]) -> Result<bool, Memory> {
+    match read_config(alloc, text) {
+        Ok(again) => Ok(print_config(alloc, &again)?.bytes() == text),
+        Err(ConfigFault::Refused { .. }) => Ok(false),
+        Err(ConfigFault::Memory) => Err(Memory),
+    }
+}
+
+/// What is told of a document; a configuration is printed, and read again.
 fn push_told(alloc: Global, out: &mut TextBuilder, document: &Value) -> Result<(), Memory> {
-    match document_of(alloc, document) {
-        Ok(read) => push_counts(out, &read),
+    match config_of(alloc, document) {
+        Ok(config) => {
+            let text = print_config(alloc, &config)?;
+            if !is_read_again(alloc, text.bytes())? {
+                out.push(b"another when it is read again: ")?;
+            }
+            push_counts(out, config.rulesets())
+        }
         Err(ConfigFault::Refused { place, cause }) => {
             out.push(place.bytes())?;
             out.push(b" ")?;

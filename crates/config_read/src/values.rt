@@ -1,10 +1,11 @@
-ghost use Rattle.std.specs.Prelude.{◌≡◌, option_map, IfOk};
+ghost use Rattle.std.specs.Prelude.{◌≡◌, option_map, IfOk, IfSome};
 ghost use Rattle.serde_json.specs.View.{view};
 ghost use Rattle.ruleset_model.specs.Data.{dynamic_data};
 ghost use Rattle.config_read.specs.Refusals.{IsAnswerOf};
 ghost use Rattle.config_read.specs.Members.{member};
 ghost use Rattle.config_read.specs.Judged.{judged};
 ghost use Rattle.config_read.specs.Values.{has_one_form, dynamic_table, dynamic_at, typed_dynamic, needed_dynamic, dynamic_under};
+ghost use Rattle.config_read.specs.Filters.{IsDynamicBuilt};
 
 use crate::fault::{Cause, ConfigFault};
 use crate::judging::filter_of;
@@ -39,6 +40,7 @@ pub(crate) fn dynamic_of(
 ) -> Result<Dynamic, ConfigFault>
     ensures table { IsAnswerOf result (dynamic_table (judged scheme.now) at place.now (view value.now)) }
     ensures value { IfOk result (λ made. dynamic_data made ≡ dynamic_at (view value.now)) }
+    ensures built { IfOk result (IsDynamicBuilt scheme.now at) }
 {
     an_object(alloc, place, value)?;
     if !has_one_form(value) {
@@ -68,6 +70,7 @@ pub(crate) fn dynamic_if_there(
 ) -> Result<Option<Dynamic>, ConfigFault>
     ensures table { IsAnswerOf result (typed_dynamic (judged scheme.now) at place.now name.now (view value.now)) }
     ensures value { IfOk result (λ made. option_map dynamic_data made ≡ dynamic_under name.now (view value.now)) }
+    ensures built { IfOk result (λ made. IfSome made (IsDynamicBuilt scheme.now at)) }
 {
     match value.get(name) {
         Some(member) => {
@@ -89,6 +92,7 @@ pub(crate) fn needed_dynamic(
 ) -> Result<Dynamic, ConfigFault>
     ensures table { IsAnswerOf result (needed_dynamic (judged scheme.now) at place.now name.now (view value.now)) }
     ensures value { IfOk result (λ made. dynamic_data made ≡ dynamic_at (member name.now (view value.now))) }
+    ensures built { IfOk result (IsDynamicBuilt scheme.now at) }
 {
     match value.get(name) {
         Some(member) => {

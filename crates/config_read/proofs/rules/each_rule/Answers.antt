@@ -3,12 +3,14 @@ use Rattle.std.proofs.lemmas.List.{map-append}
 use Rattle.serde_json.specs.View.{view}
 use Rattle.ruleset_model.specs.Data.{RuleData, rule_data}
 use Rattle.ruleset_model.specs.declared.ruleset.Rule.{Rule}
+use Rattle.config_read.specs.Filters.{IsRuleBuilt}
 use Rattle.config_read.specs.Ids.{Keeps}
 use Rattle.config_read.specs.Here.{rules_here}
 use Rattle.config_read.specs.Judged.{judged}
 use Rattle.config_read.specs.RulesOf.{rule_table, rule_at}
 use Rattle.config_read.specs.Sets.{data_of}
 use Rattle.config_read.proofs.EachLemmas.{one_further, goes_further}
+use Rattle.config_read.proofs.FilterLemmas.{all_more}
 use Rattle.config_read.proofs.IdLemmas.{one_more_rule}
 use Rattle.config_read.proofs.rules.each_rule.Goals as goal
 
@@ -31,5 +33,6 @@ loop-value-preserved c =
     record {
       rules = one_further (rule_at all c.args.phase) values i item before _ _ c.loop-value-test.true c.value-item.is made c.loop-value.invariant.rules;
       tables = goes_further table (rule_at all c.args.phase) values i item before _ (rules_here c.args.scheme.now c.args.all.now c.args.kind c.args.phase c.args.place.now values) c.loop-value-test.true c.value-item.is made c.loop-value.invariant.tables passed;
+      built = all_more (IsRuleBuilt c.args.scheme.now c.args.phase) c.loop-value.rules c.in_ok-rule.rule _ c.in_ok-push.ensures.ok c.loop-value.invariant.built c.in_ok-rule.ensures.built;
       ids = one_more_rule c.loop-value.ids c.keep.new.ids c.loop-value.rules _ c.in_ok-rule.rule c.len.result c.loop-value.invariant.ids kept c.in_ok-push.ensures.ok;
     }

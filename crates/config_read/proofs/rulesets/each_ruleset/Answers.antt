@@ -3,12 +3,14 @@ use Rattle.std.proofs.lemmas.List.{map-append}
 use Rattle.serde_json.specs.View.{view}
 use Rattle.ruleset_model.specs.Data.{RulesetData, set_data}
 use Rattle.ruleset_model.specs.declared.ruleset.Ruleset.{Ruleset}
+use Rattle.config_read.specs.Filters.{IsRulesetBuilt}
 use Rattle.config_read.specs.Ids.{Keeps}
 use Rattle.config_read.specs.Here.{rulesets_here}
 use Rattle.config_read.specs.Judged.{judged}
 use Rattle.config_read.specs.RulesetsOf.{ruleset_table, ruleset_at}
 use Rattle.config_read.specs.Sets.{data_of}
 use Rattle.config_read.proofs.EachLemmas.{one_further, goes_further}
+use Rattle.config_read.proofs.FilterLemmas.{all_more}
 use Rattle.config_read.proofs.IdLemmas.{one_more_set}
 use Rattle.config_read.proofs.rulesets.each_ruleset.Goals as goal
 
@@ -31,5 +33,6 @@ loop-value-preserved c =
     record {
       sets = one_further (ruleset_at all) values i item before _ _ c.loop-value-test.true c.value-item.is made c.loop-value.invariant.sets;
       tables = goes_further table (ruleset_at all) values i item before _ (rulesets_here c.args.scheme.now c.args.all.now c.args.place.now) c.loop-value-test.true c.value-item.is made c.loop-value.invariant.tables passed;
+      built = all_more (IsRulesetBuilt c.args.scheme.now) c.loop-value.sets c.in_ok-set.set _ c.in_ok-push.ensures.ok c.loop-value.invariant.built c.in_ok-set.ensures.built;
       ids = one_more_set c.loop-value.ids c.keep.new.ids c.loop-value.sets _ c.in_ok-set.set c.len.result c.loop-value.invariant.ids kept c.in_ok-push.ensures.ok;
     }

@@ -4,6 +4,7 @@ use Rattle.ruleset_model.specs.Data.{set_data}
 use Rattle.config_read.specs.Judged.{judged}
 use Rattle.config_read.specs.Ids.{AreSetIdsOf}
 use Rattle.config_read.specs.Sets.{data_of}
+use Rattle.config_read.specs.Filters.{AreRulesetsBuilt}
 use Rattle.config_read.specs.RulesetsOf.{ruleset_table, ruleset_at, each_ruleset_table}
 use Rattle.config_read.proofs.EachLemmas.{Goes}
 use Rattle.config_read.proofs.rulesets.each_ruleset.Given as goal
@@ -15,4 +16,5 @@ invariant-loop-value l = record {
   sets : map set_data l.sets ++ map (ruleset_at (data_of l.all)) (map view (drop l.value-index l.all.values.now)) ≡ map (ruleset_at (data_of l.all)) (data_of l.all);
   tables : Goes (ruleset_table (judged l.scheme) (data_of l.all) l.place) (ruleset_at (data_of l.all)) (map set_data l.sets) (map view (drop l.value-index l.all.values.now)) (each_ruleset_table (judged l.scheme) (data_of l.all) l.place (data_of l.all));
   ids : AreSetIdsOf l.ids (map set_data l.sets);
+  built : AreRulesetsBuilt l.scheme l.sets;
 }
