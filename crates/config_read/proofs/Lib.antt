@@ -1,5 +1,6 @@
 pub mod AnswerLemmas
 pub mod BoolLemmas
+pub mod DataLemmas
 pub mod EachLemmas
 pub mod IdLemmas
 pub mod FilterLemmas

@@ -1,4 +1,5 @@
 pub mod Causes
+pub mod DataLaws
 pub mod Places
 pub mod Refusals
 pub mod Members

@@ -1,3 +1,4 @@
+ghost use Rattle.config_read.specs.DataLaws.{ConfigurationsAreTheirData};
 ghost use Rattle.config_read.specs.Reads.{FirstRefusalIsOne};
 
 use expr_parser::answers_are_unique;
@@ -6,6 +7,14 @@ use expr_parser::answers_are_unique;
 #[tactic(auto, using(crate::proofs::DocumentSettled::first_refusal_one))]
 pub fn first_refusal_is_one()
     ensures { FirstRefusalIsOne }
+{
+    answers_are_unique();
+}
+
+/// A law: two valid configurations with the same data are the same.
+#[tactic(auto, using(crate::proofs::DataLemmas::one_configuration))]
+pub fn configurations_are_their_data()
+    ensures { ConfigurationsAreTheirData }
 {
     answers_are_unique();
 }
