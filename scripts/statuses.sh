@@ -12,6 +12,12 @@ show() { # WANTED STATUS, what is shown; the run's status is in $?
 }
 "$program" replay <examples/first.jsonl; show $? 0 "two good lines"
 printf '{x\n' | "$program" replay; show $? 3 "a line that is no item"
+printf '{"rulesets":[]}' | "$program" check; show $? 0 "a configuration without rulesets"
+printf '[' | "$program" check; show $? 3 "a document that is no JSON"
+printf '{"rulesets":[{"id":"a"}]}' | "$program" check; show $? 3 "a ruleset without a kind"
+head -c 1048577 /dev/zero | "$program" check; show $? 3 "a document of 1,048,577 bytes"
+"$program" check <examples; show $? 5 "a document that is a folder"
+if [ -e /dev/full ]; then printf '{}' | "$program" check >/dev/full; show $? 6 "an answer that can't be written"; fi
 "$program" </dev/null; show $? 2 "no words"
 "$program" replay extra </dev/null; show $? 2 "the words 'replay extra'"
 "$program" replay <examples; show $? 5 "an input that is a folder"

@@ -1,5 +1,7 @@
+pub mod CheckLemmas
 pub mod CheckedLemmas
 pub mod DeploymentLemmas
+pub mod DocumentLemmas
 pub mod InForceLemmas
 pub mod JudgingLemmas
 pub mod OutputLemmas

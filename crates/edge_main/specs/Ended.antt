@@ -1,11 +1,14 @@
 -- What the top call promises where it ended with a status: of what was written, and of what was taken.
-use Rattle.std.specs.Prelude.{◌≡◌, ◌≢◌, ℕ, ◌<◌, ◌^◌, ◌↔◌, ◌⊎◌, Bool, true, false, List, [], ◌++◌, length, Option, Some}
+use Rattle.std.specs.Prelude.{◌≡◌, ◌≢◌, ℕ, ◌<◌, ◌^◌, ◌↔◌, ◌⊎◌, Bool, true, false, List, [], ◌++◌, length, Option, None, Some}
 use Rattle.std.specs.Io.KnownBytes.{Appends, Consumes}
 use Rattle.edge_outside.specs.Faults.{Rose}
 use Rattle.edge_outside.specs.Lines.{lines_of, NoNewline}
 use Rattle.edge_main.specs.declared.statuses.Status.{Status}
 use Rattle.edge_main.specs.declared.statuses.Status.TheVariants as status
+use Rattle.edge_main.specs.declared.commands.Command.{Command}
+use Rattle.edge_main.specs.declared.commands.Command.TheVariants as command
 use Rattle.edge_main.specs.Answered.{RunState, opening, Answered}
+use Rattle.edge_main.specs.CheckEnded.{ChecksAs}
 use Rattle.edge_main.specs.Output.{IsRun, IsRunOf, IsOutput, texts_of}
 
 -- the output of a run over the whole input was written; `any_bad` says whether a line was no item
@@ -72,11 +75,24 @@ abbrev pub EndsAs : {I O : Type 0} → (I → Option (List ℕ)) → (O → Opti
 EndsAs left got ended input before after =
     (text : List ℕ) → left input ≡ Some text → Ended ended text (got before) (got after)
 
+-- the same of the command that the words are; where they are none, nothing was written
+abbrev pub EndsBy : {I O : Type 0} → Option Command → (I → Option (List ℕ)) → (O → Option (List ℕ)) → Status → I → O → O → Type 0
+EndsBy None left got ended input before after = Appends (got before) (got after) []
+EndsBy (Some command.Check) left got ended input before after = ChecksAs left got ended input before after
+EndsBy (Some command.Replay) left got ended input before after = EndsAs left got ended input before after
+
 -- where no write failed, the answers of whole lines were written
 abbrev pub AnswersWhole : {I O : Type 0} → (I → Option (List ℕ)) → (O → ℕ) → (O → Option (List ℕ)) → Status → I → I → O → O → Type 0
 AnswersWhole left faults got ended input input' before after =
     ¬ (Rose (faults before) (faults after)) → (text : List ℕ) → left input ≡ Some text
     → WroteWhole ended text (left input') (got before) (got after)
+
+-- the same of the command that the words are
+abbrev pub AnswersBy : {I O : Type 0} → Option Command → (I → Option (List ℕ)) → (O → ℕ) → (O → Option (List ℕ)) → Status → I → I → O → O → Type 0
+AnswersBy None left faults got ended input input' before after = Unit {0}
+AnswersBy (Some command.Check) left faults got ended input input' before after = Unit {0}
+AnswersBy (Some command.Replay) left faults got ended input input' before after =
+    AnswersWhole left faults got ended input input' before after
 
 -- where the words are a command, no read and no write failed and the input had fewer than 2^40 bytes, it was judged whole,
 -- or memory was refused

@@ -1,10 +1,13 @@
 pub mod Answered
+pub mod CheckEnded
+pub mod Checked
+pub mod Commands
 pub mod Deployment
+pub mod Document
 pub mod Ended
 pub mod InForce
 pub mod Judging
 pub mod Output
 pub mod Running
 pub mod Statuses
-pub mod Words
 pub mod Written

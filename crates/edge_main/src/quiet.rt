@@ -1,13 +1,14 @@
-ghost use Rattle.std.specs.Prelude.{◌≡◌, ◌≢◌, ◌<◌, ◌^◌, ◌⊎◌, ◌↔◌, ℕ, List, Option, Some, true, false, length, map, vec_len};
+ghost use Rattle.std.specs.Prelude.{◌≡◌, ◌≢◌, ◌<◌, ◌^◌, ◌⊎◌, ◌↔◌, ℕ, List, Option, None, Some, length, map, vec_len};
 ghost use Rattle.std.specs.Io.KnownBytes.{Appends};
 ghost use Rattle.edge_outside.specs.Faults.{Rose};
 ghost use Rattle.edge_main.specs.Statuses.{said_of};
-ghost use Rattle.edge_main.specs.Words.{is_replay};
-ghost use Rattle.edge_main.specs.Ended.{IsJudged, TookInput, Says, EndsAs, AnswersWhole, IsComplete};
+ghost use Rattle.edge_main.specs.Commands.{command_in};
+ghost use Rattle.edge_main.specs.Ended.{IsJudged, TookInput, Says, EndsBy, AnswersBy, IsComplete};
 
+use crate::checking::check_input;
+use crate::commands::{Command, command_of};
 use crate::replay::replay_input;
 use crate::statuses::Status;
-use crate::words::is_replay;
 use edge_outside::{Sink, Source, write_all};
 use std::alloc::Global;
 use std::hash::RandomState;
@@ -19,7 +20,29 @@ fn tell<E: Sink>(status: Status, said: &mut E)
     let _ = write_all(said, status.said());
 }
 
-/// Runs one command of those that wait for nobody: `replay`.
+/// Runs a command.
+fn run_command<S: Source, K: Sink>(
+    alloc: Global,
+    command: Command,
+    input: &mut S,
+    out: &mut K,
+) -> Status
+    ensures ended { EndsBy (Some command) S.left K.got result input.old out.old out.new }
+    ensures answered { AnswersBy (Some command) S.left K.faults K.got result input.old input.new out.old out.new }
+    ensures read { result ≡ Status.ReadFault → Rose (S.faults input.old) (S.faults input.new) }
+    ensures input_kept { result ≢ Status.ReadFault → S.faults input.new ≡ S.faults input.old }
+    ensures write { result ≡ Status.WriteFault → Rose (K.faults out.old) (K.faults out.new) }
+    ensures out_kept { IsJudged result → K.faults out.new ≡ K.faults out.old }
+    ensures took { TookInput (S.left input.old) (S.left input.new) (S.taken input.old) (S.taken input.new) result }
+    ensures plain { (result ≢ Status.Usage) × (result ≢ Status.AcceptFault) × (result ≢ Status.Spent) }
+{
+    match command {
+        Command::Check => check_input(alloc, input, out),
+        Command::Replay => replay_input(alloc, input, out),
+    }
+}
+
+/// Runs one command of those that wait for nobody: `check` or `replay`.
 pub fn edge_quiet<S: Source, K: Sink, E: Sink>(
     alloc: Global,
     words: &[&str],
@@ -29,10 +52,10 @@ pub fn edge_quiet<S: Source, K: Sink, E: Sink>(
     hashers: Vec<RandomState>,
 ) -> Status
     requires { vec_len hashers ≡ 64 }
-    ensures usage { (result ≡ Status.Usage) ↔ (is_replay (map (λ word. word.now) words.now) ≡ false) }
+    ensures usage { (result ≡ Status.Usage) ↔ (command_in words.now ≡ None) }
     ensures usage_kept { result ≡ Status.Usage → (input.new ≡ input.old) × (out.new ≡ out.old) }
-    ensures ended { EndsAs S.left K.got result input.old out.old out.new }
-    ensures answered { AnswersWhole S.left K.faults K.got result input.old input.new out.old out.new }
+    ensures ended { EndsBy (command_in words.now) S.left K.got result input.old out.old out.new }
+    ensures answered { AnswersBy (command_in words.now) S.left K.faults K.got result input.old input.new out.old out.new }
     ensures read { result ≡ Status.ReadFault → Rose (S.faults input.old) (S.faults input.new) }
     ensures input_kept { result ≢ Status.ReadFault → S.faults input.new ≡ S.faults input.old }
     ensures write { result ≡ Status.WriteFault → Rose (K.faults out.old) (K.faults out.new) }
@@ -42,11 +65,11 @@ pub fn edge_quiet<S: Source, K: Sink, E: Sink>(
     ensures said { Says E.faults E.got said.old said.new (said_of result) }
     ensures complete { IsComplete S.faults S.left K.faults result input.old input.new out.old out.new }
 {
-    if !is_replay(words) {
+    let Some(command) = command_of(words) else {
         tell(Status::Usage, said);
         return Status::Usage;
-    }
-    let status = replay_input(alloc, input, out);
+    };
+    let status = run_command(alloc, command, input, out);
     tell(status, said);
     status
 }

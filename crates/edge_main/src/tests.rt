@@ -1,4 +1,4 @@
-//! `replay` on inputs in memory: worked examples, and each read and each write failing in turn.
+//! The commands on inputs in memory: worked examples, and each read and each write failing in turn.
 ghost use Rattle.std.specs.Prelude.{◌≡◌, ◌≤◌, vec_len};
 
 use crate::{Status, edge_quiet, lane_hashers};
@@ -9,6 +9,8 @@ use std::hash::RandomState;
 use std::process::Abort;
 use std::random::RandomSource;
 use std::test::Fail;
+
+mod checking;
 
 const DEPLOY: &str =
     "{\"deploy\":{\"rulesets\":[{\"id\":\"fw\",\"kind\":\"zone\",\"phase\":\"http_request_firewall_custom\",\"rules\":[{\"id\":\"r1\",\"expression\":\"http.request.uri.path eq \\\"/admin\\\"\",\"action\":\"block\"}]}]}}\n{\"at\":0,\"ip\":\"10.0.0.1\",\"method\":\"GET\",\"target\":\"/admin\",\"headers\":[[\"host\",\"a.example\"]]}\n";
@@ -80,12 +82,26 @@ fn run(
     requires hashers { vec_len hashers ≡ 64 }
     requires piece { 1 ≤ streams.piece }
 {
+    let input = Text::of(alloc, input.as_bytes())?;
+    run_on(alloc, hashers, words, input, streams)
+}
+
+fn run_on(
+    alloc: Global,
+    hashers: Vec<RandomState>,
+    words: &[&str],
+    input: Text,
+    streams: Streams,
+) -> Result<Ran, Fail>
+    requires hashers { vec_len hashers ≡ 64 }
+    requires piece { 1 ≤ streams.piece }
+{
     let Streams {
         piece,
         reads,
         writes,
     } = streams;
-    let mut source = TextSource::new(Text::of(alloc, input.as_bytes())?, piece, reads);
+    let mut source = TextSource::new(input, piece, reads);
     let mut out = TextSink::new(alloc, 4_096, piece, writes)?;
     let mut said = TextSink::new(alloc, 64, 64, Numbers::new(alloc))?;
     let status = edge_quiet(alloc, words, &mut source, &mut out, &mut said, hashers);
