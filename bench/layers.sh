@@ -89,6 +89,10 @@ for name in ('map', 'map_alike'):
     last = None
     for size in (100, 2325, 4650, 9300):
         last = told(name, size, last)
+# A pick of the version in force, beside so many readers that pick as often, each in a thread of its own: where there are as
+# many processors, its time may not grow with them.
+for size in (0, 1, 3):
+    told('pick', size)
 # A step on lanes, of counters that are new and of such as have taken a million steps: for each number of keys the second may
 # take half as long again. Plain Rust then does the same: how many times its own time is the plain one's, the first line over
 # the second. At the end of a million steps on 250,000 keys the lanes are nearly full; the peak holds the asks too.

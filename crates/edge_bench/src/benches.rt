@@ -3,11 +3,14 @@ use crate::arguments::{Names, arguments_found};
 use crate::expressions::tokens_found;
 use crate::faults::Fault;
 use crate::lanes::{Age, Threshold, steps_passed};
+use crate::picks::picks_beside;
 use crate::texts::texts_found;
 use crate::wildcards::{Shape, matches_found};
 use edge_fields::FieldId;
 use std::alloc::Global;
 use std::hash::RandomState;
+use std::sync::Wait;
+use std::thread::Threads;
 
 /// What is called.
 #[derive(Clone, Copy, Debug, PartialEq, Eq)]
@@ -22,10 +25,12 @@ pub enum Bench {
     ArgNames,
     /// A step on lanes.
     Lane(Threshold, Age),
+    /// A pick of the version in force, beside as many other readers as the size says.
+    Pick,
 }
 
 /// Every bench.
-const BENCHES: [Bench; 13] = [
+const BENCHES: [Bench; 14] = [
     Bench::Lex,
     Bench::HasAddr,
     Bench::HasText,
@@ -39,6 +44,7 @@ const BENCHES: [Bench; 13] = [
     Bench::Lane(Threshold::Five, Age::Worn),
     Bench::Lane(Threshold::Thousand, Age::New),
     Bench::Lane(Threshold::Thousand, Age::Worn),
+    Bench::Pick,
 ];
 
 /// A bench at a size, and how often the call is made.
@@ -50,7 +56,7 @@ pub struct Job {
 }
 
 /// Each bench at a small size.
-pub const SMALL: [Job; 13] = [
+pub const SMALL: [Job; 14] = [
     Job {
         bench: Bench::Lex,
         size: 512,
@@ -116,6 +122,11 @@ pub const SMALL: [Job; 13] = [
         size: 100,
         rounds: 1000,
     },
+    Job {
+        bench: Bench::Pick,
+        size: 1,
+        rounds: 1000,
+    },
 ];
 
 impl Bench {
@@ -134,6 +145,7 @@ impl Bench {
             Bench::Lane(Threshold::Five, Age::Worn) => "lane_5_worn",
             Bench::Lane(Threshold::Thousand, Age::New) => "lane_1000",
             Bench::Lane(Threshold::Thousand, Age::Worn) => "lane_1000_worn",
+            Bench::Pick => "pick",
         }
     }
 
@@ -162,7 +174,12 @@ impl Job {
     }
 
     /// A number that every answer of the job counts in.
-    pub fn found(self, alloc: Global, hasher: RandomState) -> Result<u64, Fault> {
+    pub fn found<R: Wait + Threads + Sync>(
+        self,
+        rt: &R,
+        alloc: Global,
+        hasher: RandomState,
+    ) -> Result<u64, Fault> {
         match self.bench {
             Bench::Lex => tokens_found(alloc, self.size, self.rounds),
             Bench::HasAddr => addresses_found(alloc, self.size, self.rounds),
@@ -174,6 +191,7 @@ impl Job {
             Bench::Lane(threshold, age) => {
                 steps_passed(alloc, hasher, threshold, age, self.size, self.rounds)
             }
+            Bench::Pick => picks_beside(rt, alloc, self.size, self.rounds),
             Bench::ArgNames => {
                 arguments_found(
                     alloc,

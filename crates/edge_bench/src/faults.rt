@@ -90,7 +90,7 @@ impl Fault {
     pub fn said(self) -> &'static str {
         match self {
             Fault::Usage => {
-                "usage: edge_bench lex|has_addr|has_text|wild|wild_long|wild_middle|map|map_alike|names|lane_5|lane_5_worn|lane_1000|lane_1000_worn SIZE ROUNDS"
+                "usage: edge_bench lex|has_addr|has_text|wild|wild_long|wild_middle|map|map_alike|names|lane_5|lane_5_worn|lane_1000|lane_1000_worn|pick SIZE ROUNDS"
             }
             Fault::Refused => "edge_bench: refused",
             Fault::Write => "edge_bench: write fault",

@@ -8,6 +8,7 @@ mod benches;
 mod expressions;
 mod faults;
 mod lanes;
+mod picks;
 mod spread;
 mod texts;
 mod wildcards;
@@ -19,6 +20,8 @@ use std::hash::RandomState;
 use std::process::ExitCode;
 use std::random::RandomSource;
 use std::rt::Env;
+use std::sync::Wait;
+use std::thread::Threads;
 use std::{env, io};
 
 /// The words behind the program's name.
@@ -31,8 +34,13 @@ fn words<R: Env + AllocGlobal>(rt: &R) -> io::Result<Vec<String>> {
 }
 
 /// Does a job, and prints its line.
-fn print_found(rt: &impl Print, alloc: Global, hasher: RandomState, job: Job) -> Result<(), Fault> {
-    let found = job.found(alloc, hasher)?;
+fn print_found<R: Print + Wait + Threads + Sync>(
+    rt: &R,
+    alloc: Global,
+    hasher: RandomState,
+    job: Job,
+) -> Result<(), Fault> {
+    let found = job.found(rt, alloc, hasher)?;
     let name = job.bench.name();
     let size = job.size;
     match println!(rt; "{name} {size} {found}") {
@@ -42,7 +50,12 @@ fn print_found(rt: &impl Print, alloc: Global, hasher: RandomState, job: Job) ->
 }
 
 /// The job that the words ask for, or each at a small size where there are none.
-fn run(rt: &impl Print, alloc: Global, hasher: RandomState, words: &[String]) -> Result<(), Fault> {
+fn run<R: Print + Wait + Threads + Sync>(
+    rt: &R,
+    alloc: Global,
+    hasher: RandomState,
+    words: &[String],
+) -> Result<(), Fault> {
     if words.is_empty() {
         for job in SMALL {
             print_found(rt, alloc, hasher, job)?;
@@ -56,7 +69,9 @@ fn run(rt: &impl Print, alloc: Global, hasher: RandomState, words: &[String]) ->
 }
 
 /// Reads the words, and does what they ask for.
-fn start<R: Env + AllocGlobal + Print + RandomSource>(rt: &R) -> Result<(), Fault> {
+fn start<R: Env + AllocGlobal + Print + RandomSource + Wait + Threads + Sync>(
+    rt: &R,
+) -> Result<(), Fault> {
     // Words that can't be read, as where one isn't UTF-8, are no job.
     let Ok(words) = words(rt) else {
         return Err(Fault::Usage);
