@@ -1,4 +1,4 @@
-use Rattle.std.proofs.Common.{rules, ap, ◌∙◌}
+use Rattle.std.proofs.Common.{rules, ◌≡◌, ap, ◌∙◌}
 use Rattle.rate_shared.specs.declared.rule.Shape.{Shape}
 use Rattle.rate_shared.proofs.tests.counters_of.Goals as goal
 
