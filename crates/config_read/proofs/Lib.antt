@@ -40,3 +40,13 @@ pub mod ValidExecutions
 pub mod ValidActs
 pub mod ValidLimits
 pub mod ValidRules
+pub mod BuiltOnce
+pub mod CheckFound
+pub mod DocumentMet
+pub mod DocumentRead
+pub mod FoundItems
+pub mod ListsMet
+pub mod MetLemmas
+pub mod OfTexts
+pub mod BuiltFound
+pub mod KindFound

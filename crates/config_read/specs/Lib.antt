@@ -23,3 +23,4 @@ pub mod Here
 pub mod Reads
 pub mod Printed
 pub mod Prints
+pub mod Answered

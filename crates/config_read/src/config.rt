@@ -5,6 +5,7 @@ ghost use Rattle.list_store.specs.Listed.{list_kinds_of};
 ghost use Rattle.list_store.specs.Parts.{AreFineBefore};
 ghost use Rattle.ruleset_model.specs.Data.{set_data, config_data};
 ghost use Rattle.ruleset_model.specs.Valid.{IsListFormed};
+ghost use Rattle.config_read.specs.Answered.{IsBuiltOfTexts};
 ghost use Rattle.config_read.specs.Refusals.{IsAnswerOf};
 ghost use Rattle.config_read.specs.Judged.{judged};
 ghost use Rattle.config_read.specs.Filters.{AreRulesetsBuilt};
@@ -61,6 +62,7 @@ fn configured(
     requires built { AreRulesetsBuilt (list_kinds_of lists) rulesets }
     ensures table { IsAnswerOf result (document_table judged (view value.now)) }
     ensures value { IfOk result (λ config. config_data config ≡ stands (view value.now)) }
+    ensures built { IfOk result IsBuiltOfTexts }
 {
     match built(alloc, lists) {
         Ok(lists) => Ok(Config::of(lists, rulesets)),
@@ -71,6 +73,7 @@ fn configured(
 fn config_in(alloc: Global, value: &Value) -> Result<Config, ConfigFault>
     ensures table { IsAnswerOf result (document_table judged (view value.now)) }
     ensures value { IfOk result (λ config. config_data config ≡ stands (view value.now)) }
+    ensures built { IfOk result IsBuiltOfTexts }
 {
     match document_in(alloc, value) {
         Ok(Document { lists, rulesets }) => configured(alloc, value, lists, rulesets),
@@ -80,7 +83,8 @@ fn config_in(alloc: Global, value: &Value) -> Result<Config, ConfigFault>
 
 /// The configuration that a document stands for, or what of it is refused first.
 pub fn config_of(alloc: Global, value: &Value) -> Result<Config, ConfigFault>
-    ensures { Reads (view value.now) (config_of result) }
+    ensures reads { Reads (view value.now) (config_of result) }
+    ensures built { IfOk result IsBuiltOfTexts }
 {
     match config_in(alloc, value) {
         Ok(config) => Ok(config),

@@ -1,4 +1,5 @@
-ghost use Rattle.config_read.specs.DataLaws.{ConfigurationsAreTheirData};
+ghost use Rattle.config_read.specs.Answered.{DocumentsAreRead};
+ghost use Rattle.config_read.specs.DataLaws.{ConfigurationsAreTheirData, BuiltConfigurationsAreTheirData};
 ghost use Rattle.config_read.specs.Reads.{FirstRefusalIsOne};
 
 use expr_parser::answers_are_unique;
@@ -18,3 +19,17 @@ pub fn configurations_are_their_data()
 {
     answers_are_unique();
 }
+
+/// A law: two configurations with the same data are the same, where each filter is built of the text beside it.
+#[tactic(auto, using(crate::proofs::BuiltOnce::one_built))]
+pub fn built_configurations_are_their_data()
+    ensures { BuiltConfigurationsAreTheirData }
+{
+    answers_are_unique();
+}
+
+/// A law: each document is taken, and stands for a configuration, or is refused.
+#[tactic(auto, using(crate::proofs::DocumentRead::documents_are_read))]
+pub fn documents_are_read()
+    ensures { DocumentsAreRead }
+{}

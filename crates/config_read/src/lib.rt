@@ -35,7 +35,10 @@ pub use action::Action;
 pub use config::{config_of, read_config};
 pub use document::{Document, document_of};
 pub use fault::{Cause, ConfigFault};
-pub use laws::{configurations_are_their_data, first_refusal_is_one};
+pub use laws::{
+    built_configurations_are_their_data, configurations_are_their_data, documents_are_read,
+    first_refusal_is_one,
+};
 pub use lists::{front_is_settled, lists_of};
 pub use printing::print_config;
 pub use reading::read_document;
