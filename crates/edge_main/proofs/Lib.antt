@@ -1,9 +1,9 @@
+pub mod AskedLemmas
 pub mod CheckLemmas
-pub mod CheckedLemmas
-pub mod DeploymentLemmas
 pub mod DocumentLemmas
-pub mod InForceLemmas
-pub mod JudgingLemmas
+pub mod MeaningLemmas
 pub mod OutputLemmas
 pub mod RunLemmas
 pub mod RunningLemmas
+pub mod ShownLemmas
+pub mod TalkedLemmas

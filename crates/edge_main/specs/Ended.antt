@@ -1,5 +1,5 @@
 -- What the top call promises where it ended with a status: of what was written, and of what was taken.
-use Rattle.std.specs.Prelude.{◌≡◌, ◌≢◌, ℕ, ◌<◌, ◌^◌, ◌↔◌, ◌⊎◌, Bool, true, false, List, [], ◌++◌, length, Option, None, Some}
+use Rattle.std.specs.Prelude.{◌≡◌, ◌≢◌, ℕ, ◌<◌, ◌≤◌, ◌^◌, ◌↔◌, ◌⊎◌, Bool, true, false, List, [], ◌++◌, length, Option, None, Some}
 use Rattle.std.specs.Io.KnownBytes.{Appends, Consumes}
 use Rattle.edge_outside.specs.Faults.{Rose}
 use Rattle.edge_outside.specs.Lines.{lines_of, NoNewline}
@@ -10,14 +10,17 @@ use Rattle.edge_main.specs.declared.commands.Command.TheVariants as command
 use Rattle.edge_main.specs.Answered.{RunState, opening, Answered}
 use Rattle.edge_main.specs.CheckEnded.{ChecksAs}
 use Rattle.edge_main.specs.Output.{IsRun, IsRunOf, IsOutput, texts_of}
+use Rattle.edge_main.specs.Spent.{WasSpent}
 
--- the output of a run over the whole input was written; `any_bad` says whether a line was no item
+-- the output of a run over the whole input was written, and no step was one too many; `any_bad` says whether a line was
+-- no item
 pub record WroteOutput (any_bad : Bool) (text : List ℕ) (before now : Option (List ℕ)) : Type 0 where
   pub run : List Answered
   pub to : RunState
   pub is_run : IsRunOf text run to
   pub appends : Appends before now (texts_of run)
   pub is_bad : to.any_bad ≡ any_bad
+  pub few : length to.history ≤ 2 ^ 50
 
 -- the front, in bytes, of an output was written
 abbrev pub WroteFront : List ℕ → Option (List ℕ) → Option (List ℕ) → Type 0
@@ -51,7 +54,7 @@ Ended status.Memory text before now = WroteFront text before now
 Ended status.LongInput text before now = WroteFront text before now
 Ended status.Usage text before now = Appends before now []
 Ended status.AcceptFault text before now = ⊥
-Ended status.Spent text before now = ⊥
+Ended status.Spent text before now = WroteFront text before now × WasSpent text
 
 -- bytes were taken from the input; the run ended for the length of the input exactly where they are 2^40
 pub record TookInput (left_before left_after taken_before taken_after : Option (List ℕ)) (ended : Status) : Type 0 where
@@ -95,9 +98,9 @@ AnswersBy (Some command.Replay) left faults got ended input input' before after 
     AnswersWhole left faults got ended input input' before after
 
 -- where the words are a command, no read and no write failed and the input had fewer than 2^40 bytes, it was judged whole,
--- or memory was refused
+-- or a step was one too many, or memory was refused
 abbrev pub IsComplete : {I O : Type 0} → (I → ℕ) → (I → Option (List ℕ)) → (O → ℕ) → Status → I → I → O → O → Type 0
 IsComplete reads left writes ended input input' before after =
     ended ≢ status.Usage → ¬ (Rose (reads input) (reads input')) → ¬ (Rose (writes before) (writes after))
     → (text rest : List ℕ) → left input ≡ Some text → left input' ≡ Some rest → length text < 2 ^ 40
-    → IsJudged ended ⊎ (ended ≡ status.Memory)
+    → IsJudged ended ⊎ ((ended ≡ status.Memory) ⊎ (ended ≡ status.Spent))

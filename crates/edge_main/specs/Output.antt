@@ -1,28 +1,40 @@
 -- What `replay` writes for an input: a run over its lines in order, each answered by what it is and by how far the run
 -- has come.
-use Rattle.std.specs.Prelude.{◌≡◌, ℕ, ◌⊎◌, List, [], ◌∷◌, ◌++◌, ⊤}
+use Rattle.std.specs.Prelude.{◌≡◌, ℕ, List, [], ◌∷◌, ◌++◌, ⊤, Option, Err}
 use Rattle.serde_json.specs.Data.{Data}
 use Rattle.edge_outside.specs.Lines.{lines_of}
+use Rattle.ruleset_model.specs.ConfigParts.{ConfigParts}
+use Rattle.judge_core.specs.Values.{Listed}
+use Rattle.config_read.specs.Answered.{StandsFor}
+use Rattle.config_read.specs.declared.fault.Cause.{Cause}
+use Rattle.config_read.specs.declared.fault.ConfigFault.TheVariants as fault
+use Rattle.config_read.specs.Judged.{judged as judgement_with_patterns}
+use Rattle.config_read.specs.Reads.{Reads, IsFirstRefusal, document_table}
+use Rattle.config_read.specs.Refusals.{Refusal}
 use Rattle.trace_form.specs.Item.{IsBlank, IsDeploy, IsAsk, IsNoItem}
 use Rattle.trace_form.specs.declared.item.Recorded.{Recorded}
 use Rattle.trace_form.specs.declared.refusal.BadCause.{BadCause}
-use Rattle.trace_form.specs.declared.refusal.BadCause.TheVariants as cause
-use Rattle.edge_main.specs.InForce.{InForce, IsTaken, IsNotTaken, HasNoPatterns}
-use Rattle.edge_main.specs.Answered.{RunState, opening, Answered, passed_by, refused, put_in_force, judged}
+use Rattle.edge_main.specs.Answered.{RunState, opening, Answered, passed_by, refused, put_in_force, turned_down, judged}
+use Rattle.edge_main.specs.Named.{IsMeaningOf}
 
--- why the line is refused: it is no item, or a deployment that is not taken
-abbrev pub IsBad : List ℕ → BadCause → Type 0
-IsBad given why =
-    IsNoItem given why ⊎ ((value : Data) × IsDeploy given value × IsNotTaken value × (why ≡ cause.Unsupported))
+-- the document is taken, and stands for this configuration
+abbrev pub IsTaken : Data → ConfigParts → Type 0
+IsTaken value config = StandsFor value config
 
--- the answer to a line of the input, where the run has come so far; no rule speaks of replies, so a recorded one changes
--- nothing
+-- the document is refused at this place, for this cause
+abbrev pub IsTurnedDown : Data → List ℕ → Cause → Type 0
+IsTurnedDown value place cause = Reads value (Err (fault.Refused place cause))
+
+-- the answer to a line of the input, where the run has come so far
 pub data IsAnswered (s : RunState) (given : List ℕ) (answered : Answered) : Type 0 where
   blank : IsBlank given → answered ≡ passed_by s → IsAnswered s given answered
-  bad : (why : BadCause) → IsBad given why → answered ≡ refused s why → IsAnswered s given answered
-  deployment : (value : Data) (deployed : InForce) → IsDeploy given value → IsTaken value deployed
-      → answered ≡ put_in_force s deployed → IsAnswered s given answered
-  request : (recorded : Recorded) → IsAsk given recorded → answered ≡ judged s recorded.request → IsAnswered s given answered
+  bad : (why : BadCause) → IsNoItem given why → answered ≡ refused s why → IsAnswered s given answered
+  deployment : (value : Data) (config : ConfigParts) → IsDeploy given value → IsTaken value config
+      → answered ≡ put_in_force s config → IsAnswered s given answered
+  no_deployment : (value : Data) (place : List ℕ) (cause : Cause) → IsDeploy given value → IsTurnedDown value place cause
+      → answered ≡ turned_down s place cause → IsAnswered s given answered
+  request : (recorded : Recorded) (listed : Listed) → IsAsk given recorded → IsMeaningOf s.config.lists listed
+      → answered ≡ judged listed s recorded → IsAnswered s given answered
 
 -- these lines, in order, are answered so, from one state to another
 abbrev pub IsRun : RunState → List (List ℕ) → List Answered → RunState → Type 0
@@ -43,6 +55,11 @@ texts_of (answered ∷ run) = answered.text ++ texts_of run
 -- an output of the input: the texts of some run over it
 abbrev pub IsOutput : List ℕ → List ℕ → Type 0
 IsOutput input out = (run : List Answered) × (to : RunState) × IsRunOf input run to × (out ≡ texts_of run)
+
+-- no pattern decides anything of the document: whatever may be refused of it, or that nothing is, is the same where
+-- patterns are left out
+abbrev pub HasNoPatterns : Data → Type 0
+HasNoPatterns value = (o : Option Refusal) → document_table judgement_with_patterns value o → IsFirstRefusal value o
 
 -- no deployment of the input has a pattern
 abbrev pub IsWithoutPatterns : List (List ℕ) → Type 0

@@ -41,7 +41,7 @@ fn push_ok(line: &mut TextBuilder, config: &Config) -> Result<(), Memory>
 }
 
 /// Adds the line of a document that is refused.
-fn push_refused(line: &mut TextBuilder, place: &[u8], cause: Cause) -> Result<(), Memory>
+pub fn push_refused(line: &mut TextBuilder, place: &[u8], cause: Cause) -> Result<(), Memory>
     ensures { OnOk result (line.new ≡ line.old ++ refused_line place.now (cause_name cause)) }
 {
     line.push(b"refused ")?;

@@ -24,9 +24,11 @@ fn tell<E: Sink>(status: Status, said: &mut E)
 fn run_command<S: Source, K: Sink>(
     alloc: Global,
     command: Command,
+    hashers: Vec<RandomState>,
     input: &mut S,
     out: &mut K,
 ) -> Status
+    requires { vec_len hashers ≡ 64 }
     ensures ended { EndsBy (Some command) S.left K.got result input.old out.old out.new }
     ensures answered { AnswersBy (Some command) S.left K.faults K.got result input.old input.new out.old out.new }
     ensures read { result ≡ Status.ReadFault → Rose (S.faults input.old) (S.faults input.new) }
@@ -34,11 +36,11 @@ fn run_command<S: Source, K: Sink>(
     ensures write { result ≡ Status.WriteFault → Rose (K.faults out.old) (K.faults out.new) }
     ensures out_kept { IsJudged result → K.faults out.new ≡ K.faults out.old }
     ensures took { TookInput (S.left input.old) (S.left input.new) (S.taken input.old) (S.taken input.new) result }
-    ensures plain { (result ≢ Status.Usage) × (result ≢ Status.AcceptFault) × (result ≢ Status.Spent) }
+    ensures plain { (result ≢ Status.Usage) × (result ≢ Status.AcceptFault) }
 {
     match command {
         Command::Check => check_input(alloc, input, out),
-        Command::Replay => replay_input(alloc, input, out),
+        Command::Replay => replay_input(alloc, hashers, input, out),
     }
 }
 
@@ -60,7 +62,7 @@ pub fn edge_quiet<S: Source, K: Sink, E: Sink>(
     ensures input_kept { result ≢ Status.ReadFault → S.faults input.new ≡ S.faults input.old }
     ensures write { result ≡ Status.WriteFault → Rose (K.faults out.old) (K.faults out.new) }
     ensures out_kept { IsJudged result → K.faults out.new ≡ K.faults out.old }
-    ensures never { (result ≢ Status.AcceptFault) × (result ≢ Status.Spent) }
+    ensures never { result ≢ Status.AcceptFault }
     ensures took { TookInput (S.left input.old) (S.left input.new) (S.taken input.old) (S.taken input.new) result }
     ensures said { Says E.faults E.got said.old said.new (said_of result) }
     ensures complete { IsComplete S.faults S.left K.faults result input.old input.new out.old out.new }
@@ -69,7 +71,7 @@ pub fn edge_quiet<S: Source, K: Sink, E: Sink>(
         tell(Status::Usage, said);
         return Status::Usage;
     };
-    let status = run_command(alloc, command, input, out);
+    let status = run_command(alloc, command, hashers, input, out);
     tell(status, said);
     status
 }

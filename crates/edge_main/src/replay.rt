@@ -1,16 +1,18 @@
-ghost use Rattle.std.specs.Prelude.{◌≡◌, ◌≢◌, ◌+◌, ◌≤◌, ◌<◌, ◌^◌, ◌⊎◌, ◌↔◌, ℕ, List, [], ◌++◌, length, take, Option, Some, Result, Ok, Err, IfOk, OnOk, OnErr};
+ghost use Rattle.std.specs.Prelude.{◌≡◌, ◌≢◌, ◌+◌, ◌≤◌, ◌<◌, ◌^◌, ◌⊎◌, ◌↔◌, ℕ, List, [], ◌++◌, length, take, Option, Some, Result, Ok, Err, IfOk, OnOk, OnErr, vec_len};
 ghost use Rattle.std.specs.Io.KnownBytes.{Appends};
 ghost use Rattle.edge_outside.specs.Faults.{Rose};
 ghost use Rattle.edge_outside.specs.Reading.{line_of, weight};
 ghost use Rattle.edge_main.specs.Ended.{IsJudged, TookInput, EndsAs, AnswersWhole};
-ghost use Rattle.edge_main.specs.Running.{IsOpening, WrotePending, TakesLine, TakesLong, Turns, TurnsWithin, TookOf, status_of};
+ghost use Rattle.edge_main.specs.Running.{IsSomewhere, IsOpening, WrotePending, TakesLine, SpendsOn, TakesLong, Refuses, Turns, TurnsWithin, TookOf, status_of};
 ghost use Rattle.edge_main.specs.Running.{ClosesAs, ClosesWhole, StopsAs, StopsWhole};
 
 use crate::run::Run;
 use crate::statuses::Status;
 use edge_base::{Memory, TextBuilder};
 use edge_outside::{Failed, LineReader, LineStep, Sink, Source, write_all};
+use rate_plain::StepFault;
 use std::alloc::Global;
+use std::hash::RandomState;
 use trace_form::BadCause;
 
 /// How many answered bytes are gathered before they are written.
@@ -33,6 +35,8 @@ pub enum RunFault {
     Memory,
     /// 2^40 bytes were taken.
     LongInput,
+    /// A step was asked where 2^50 were taken.
+    Spent,
 }
 
 impl RunFault {
@@ -45,6 +49,7 @@ impl RunFault {
             RunFault::Write => Status::WriteFault,
             RunFault::Memory => Status::Memory,
             RunFault::LongInput => Status::LongInput,
+            RunFault::Spent => Status::Spent,
         }
     }
 }
@@ -56,6 +61,19 @@ impl From<Memory> for RunFault {
 
     fn from(_refused: Memory) -> RunFault {
         RunFault::Memory
+    }
+}
+
+impl From<StepFault> for RunFault {
+    ghost use Rattle.edge_main.specs.RunFaults.{run_fault};
+
+    ghost from_gives = { λ refused given. given ≡ run_fault refused };
+
+    fn from(refused: StepFault) -> RunFault {
+        match refused {
+            StepFault::Memory => RunFault::Memory,
+            StepFault::Spent => RunFault::Spent,
+        }
     }
 }
 
@@ -84,11 +102,12 @@ pub struct Replay {
 }
 
 impl Replay {
-    pub fn new(alloc: Global) -> Result<Replay, Memory>
+    pub fn new(alloc: Global, hashers: Vec<RandomState>) -> Result<Replay, Memory>
+        requires { vec_len hashers ≡ 64 }
         ensures { IfOk result IsOpening }
     {
         Ok(Replay {
-            run: Run::new(alloc)?,
+            run: Run::new(alloc, hashers)?,
             reader: LineReader::new(alloc)?,
             pending: TextBuilder::new(alloc),
             answer: TextBuilder::new(alloc),
@@ -96,22 +115,26 @@ impl Replay {
     }
 
     /// Answers the line that was read, and adds the answer to what is pending: whole, or not at all.
-    fn take_line(&mut self, alloc: Global) -> Result<(), Memory>
-        requires { self.old.run.lines < 2 ^ 40 }
+    fn take_line(&mut self, alloc: Global) -> Result<(), StepFault>
+        requires lines { self.old.run.lines < 2 ^ 40 }
+        requires somewhere { IsSomewhere self.old.run }
         ensures ok { OnOk result (TakesLine self.old (line_of self.old.reader) self.new) }
+        ensures spent { result ≡ Err StepFault.Spent → SpendsOn self.old (line_of self.old.reader) }
         ensures err { OnErr result (self.new.pending ≡ self.old.pending) }
         ensures lines { OnOk result (self.new.run.lines ≡ self.old.run.lines + 1) }
         ensures reader { self.new.reader ≡ self.old.reader }
     {
         self.run
             .answer(alloc, self.reader.line(), &mut self.answer)?;
-        self.pending.push(self.answer.bytes())
+        self.pending.push(self.answer.bytes())?;
+        Ok(())
     }
 
     /// The same for a line that is too long to be an item.
     fn take_long(&mut self) -> Result<(), Memory>
         requires { self.old.run.lines < 2 ^ 40 }
         ensures ok { OnOk result (TakesLong self.old self.new) }
+        ensures refused { OnOk result (Refuses self.old self.new) }
         ensures err { OnErr result (self.new.pending ≡ self.old.pending) }
         ensures lines { OnOk result (self.new.run.lines ≡ self.old.run.lines + 1) }
         ensures reader { self.new.reader ≡ self.old.reader }
@@ -122,8 +145,10 @@ impl Replay {
 
     /// Reads the next line and answers it, or ends. The answer is then pending.
     fn take_next<S: Source>(&mut self, alloc: Global, input: &mut S) -> Result<Turn, RunFault>
-        requires { self.old.run.lines + weight self.old.reader ≤ 2 ^ 40 }
+        requires room { self.old.run.lines + weight self.old.reader ≤ 2 ^ 40 }
+        requires somewhere { IsSomewhere self.old.run }
         ensures turn { TurnsWithin result self.old self.new (S.left input.old) (S.left input.new) }
+        ensures somewhere { result ≡ Ok Turn.Next → IsSomewhere self.new.run }
         ensures falls { result ≡ Ok Turn.Next → weight self.new.reader < weight self.old.reader }
         ensures room { result ≡ Ok Turn.Next → self.new.run.lines + weight self.new.reader ≤ 2 ^ 40 }
         ensures read { result ≡ Err RunFault.Read → Rose (S.faults input.old) (S.faults input.new) }
@@ -149,8 +174,10 @@ impl Replay {
         input: &mut S,
         out: &mut K,
     ) -> Result<Turn, RunFault>
-        requires { self.old.run.lines + weight self.old.reader ≤ 2 ^ 40 }
+        requires room { self.old.run.lines + weight self.old.reader ≤ 2 ^ 40 }
+        requires somewhere { IsSomewhere self.old.run }
         ensures turn { Turns S.left K.got result self.old self.new input.old input.new out.old out.new }
+        ensures somewhere { result ≡ Ok Turn.Next → IsSomewhere self.new.run }
         ensures falls { result ≡ Ok Turn.Next → weight self.new.reader < weight self.old.reader }
         ensures room { result ≡ Ok Turn.Next → self.new.run.lines + weight self.new.reader ≤ 2 ^ 40 }
         ensures read { result ≡ Err RunFault.Read → Rose (S.faults input.old) (S.faults input.new) }
@@ -198,7 +225,13 @@ impl Replay {
 }
 
 /// Judges each line of the input in order, and writes its answer.
-pub fn replay_input<S: Source, K: Sink>(alloc: Global, input: &mut S, out: &mut K) -> Status
+pub fn replay_input<S: Source, K: Sink>(
+    alloc: Global,
+    hashers: Vec<RandomState>,
+    input: &mut S,
+    out: &mut K,
+) -> Status
+    requires { vec_len hashers ≡ 64 }
     ensures ended { EndsAs S.left K.got result input.old out.old out.new }
     ensures answered { AnswersWhole S.left K.faults K.got result input.old input.new out.old out.new }
     ensures read { result ≡ Status.ReadFault → Rose (S.faults input.old) (S.faults input.new) }
@@ -206,9 +239,9 @@ pub fn replay_input<S: Source, K: Sink>(alloc: Global, input: &mut S, out: &mut 
     ensures write { result ≡ Status.WriteFault → Rose (K.faults out.old) (K.faults out.new) }
     ensures out_kept { IsJudged result → K.faults out.new ≡ K.faults out.old }
     ensures took { TookInput (S.left input.old) (S.left input.new) (S.taken input.old) (S.taken input.new) result }
-    ensures plain { (result ≢ Status.Usage) × (result ≢ Status.AcceptFault) × (result ≢ Status.Spent) }
+    ensures plain { (result ≢ Status.Usage) × (result ≢ Status.AcceptFault) }
 {
-    let Ok(mut replay) = Replay::new(alloc) else {
+    let Ok(mut replay) = Replay::new(alloc, hashers) else {
         return Status::Memory;
     };
     'lines: loop {

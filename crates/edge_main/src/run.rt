@@ -1,85 +1,80 @@
-ghost use Rattle.std.specs.Prelude.{◌≡◌, ◌<◌, ◌^◌, cond, IfOk, OnOk};
-ghost use Rattle.serde_json.specs.View.{view};
-ghost use Rattle.edge_main.specs.InForce.{IsTaken, IsNotTaken};
-ghost use Rattle.edge_main.specs.Answered.{opening, passed_by, refused, judged};
-ghost use Rattle.edge_main.specs.Running.{Came, RefusedFor, AnsweredDeployment, AnsweredLine};
+//! How far a run of `replay` has come, line by line.
 
-use crate::condition::deployed_by;
-use crate::judging::verdict_of;
-use crate::rule::Deployed;
+ghost use Rattle.std.specs.Prelude.{◌≡◌, ◌≤◌, ◌<◌, ◌^◌, ◌+◌, ◌++◌, cond, Err, IfOk, OnOk, vec_len};
+ghost use Rattle.std.specs.Arc.{arc_value};
+ghost use Rattle.serde_json.specs.View.{view};
+ghost use Rattle.config_read.specs.Causes.{cause_name};
+ghost use Rattle.edge_main.specs.Answered.{opening, passed_by, refused, turned_down, put_in_force, refused_deploy_line};
+ghost use Rattle.edge_main.specs.Spent.{IsSpentOn};
+ghost use Rattle.edge_main.specs.Running.{HasCome, IsSomewhere, Wherever, IsPickedOf, Came, RefusedFor, AnsweredDeployment, AnsweredLine, JudgedSo, SpendsSo};
+
+use crate::asking::judge_recorded;
+use crate::checking::push_refused;
 use crate::statuses::Status;
-use edge_base::{Memory, Request, TextBuilder, copy_headers};
-use list_store::{ListParts, Lists};
-use rate_plain::Counts;
+use config_read::{Cause, ConfigFault, config_of};
+use edge_base::{Memory, TextBuilder};
+use rate_lane::Lanes;
+use rate_plain::StepFault;
+use ruleset_model::{Config, Picked};
 use serde_json::Value;
 use std::alloc::Global;
-use std::marker::Model;
+use std::hash::RandomState;
+use std::sync::Arc;
 use trace_form::{
-    BadCause, LineFault, LineItem, LineParts, Recorded, push_bad_line, push_deploy_line, push_line,
-    read_item,
+    BadCause, LineFault, LineItem, Recorded, push_bad_line, push_deploy_line, push_line, read_item,
 };
 
-/// How far a run of `replay` has come. Contracts see its state.
+/// How many live keys a lane of the counter has room for.
+const ROOM: u32 = 4096;
+
+/// How far a run of `replay` has come.
 #[derive(Drop)]
 pub struct Run {
     /// The lines so far, blank and bad ones too.
-    lines: u64,
+    pub lines: u64,
     /// The requests so far.
-    requests: u64,
+    pub requests: u64,
     /// The number of the version in force.
-    version: u64,
-    deployed: Deployed,
+    pub version: u64,
+    pub config: Arc<Config>,
     /// Whether a line was no item.
-    any_bad: bool,
-    /// The named lists that conditions may speak of: none.
-    lists: Lists,
+    pub any_bad: bool,
+    /// It stands for the steps of all requests and replies so far.
+    pub counter: Lanes,
+    ghost few_requests: { requests ≤ lines },
+    ghost few_versions: { version ≤ lines },
 }
 
-impl Model for Run {
-    ghost use Rattle.std.specs.Prelude.{◌≡◌, ◌≤◌, []};
-    ghost use Rattle.std.specs.Coded.{codes};
-    ghost use Rattle.edge_base.specs.contracts.expression.Expr as expr;
-    ghost use Rattle.edge_main.specs.Answered.{RunState};
-
-    ghost Value = { RunState };
-
-    ghost coded = { Prim.hlevel (codes, expr.the_row.coded) };
-
-    ghost use Rattle.edge_main.specs.Written.{kept};
-
-    ghost view = { λ run. record {
-      lines = run.lines;
-      requests = run.requests;
-      version = run.version;
-      deployed = kept run.deployed;
-      any_bad = run.any_bad;
-    } };
-
-    ghost invariant = { λ run. (run.requests ≤ run.lines) × (run.version ≤ run.lines) × (run.lists ≡ []) };
+/// Adds the line of a deployment that is refused.
+fn push_refused_deploy(out: &mut TextBuilder, place: &[u8], cause: Cause) -> Result<(), Memory>
+    ensures { OnOk result (out.new ≡ out.old ++ refused_deploy_line place.now (cause_name cause)) }
+{
+    out.push(b"deploy ")?;
+    push_refused(out, place, cause)
 }
 
 impl Run {
-    /// Nothing was read yet, and version 0 is in force.
-    pub fn new(alloc: Global) -> Result<Run, Memory>
-        ensures { IfOk result (λ run. run ≡ opening) }
+    /// Nothing was read yet, and version 0 is in force. There is a hasher for each lane of the counter.
+    pub fn new(alloc: Global, hashers: Vec<RandomState>) -> Result<Run, Memory>
+        requires { vec_len hashers ≡ 64 }
+        ensures { IfOk result (λ run. HasCome run opening) }
     {
-        let Ok(lists) = Lists::build(alloc, ListParts::new(alloc)) else {
-            return Err(Memory);
-        };
+        let config = Arc::new(alloc, Config::empty(alloc)?)?;
         Ok(Run {
             lines: 0,
             requests: 0,
             version: 0,
-            deployed: Deployed { rule: None },
+            config,
             any_bad: false,
-            lists,
+            counter: Lanes::new(alloc, ROOM, hashers)?,
         })
     }
 
     /// A line that changes nothing and is not answered.
     fn pass_by(&mut self, answer: &mut TextBuilder)
         requires { self.old.lines < 2 ^ 40 }
-        ensures { Came (passed_by self.old) answer.new self.new }
+        ensures came { Wherever self.old (λ s. Came (passed_by s) answer.new self.new) }
+        ensures lines { self.new.lines ≡ self.old.lines + 1 }
     {
         answer.clear();
         self.lines += 1;
@@ -88,7 +83,8 @@ impl Run {
     /// A line that is no item, for this cause.
     pub fn refuse(&mut self, why: BadCause, answer: &mut TextBuilder) -> Result<(), Memory>
         requires { self.old.lines < 2 ^ 40 }
-        ensures { OnOk result (Came (refused self.old why) answer.new self.new) }
+        ensures came { OnOk result (Wherever self.old (λ s. Came (refused s why) answer.new self.new)) }
+        ensures lines { OnOk result (self.new.lines ≡ self.old.lines + 1) }
     {
         answer.clear();
         push_bad_line(answer, self.lines + 1, why)?;
@@ -100,7 +96,8 @@ impl Run {
     /// A line of which no item was read, for its cause; or memory was refused.
     fn refuse_for(&mut self, fault: LineFault, answer: &mut TextBuilder) -> Result<(), Memory>
         requires { self.old.lines < 2 ^ 40 }
-        ensures { OnOk result (RefusedFor fault self.old answer.new self.new) }
+        ensures refused { OnOk result (Wherever self.old (λ s. RefusedFor fault s answer.new self.new)) }
+        ensures lines { OnOk result (self.new.lines ≡ self.old.lines + 1) }
     {
         match fault {
             LineFault::Bad(why) => self.refuse(why, answer),
@@ -108,8 +105,43 @@ impl Run {
         }
     }
 
-    /// A deployment: it is put in force, or refused where it is not taken.
-    #[tactic(auto, using(crate::proofs::RunLemmas::deployment_taken, crate::proofs::RunLemmas::deployment_refused))]
+    /// A deployment that is taken: it becomes the next version.
+    fn put_in_force(
+        &mut self,
+        alloc: Global,
+        config: Config,
+        answer: &mut TextBuilder,
+    ) -> Result<(), Memory>
+        requires { self.old.lines < 2 ^ 40 }
+        ensures came { OnOk result (Wherever self.old (λ s. Came (put_in_force s config) answer.new self.new)) }
+        ensures lines { OnOk result (self.new.lines ≡ self.old.lines + 1) }
+    {
+        answer.clear();
+        push_deploy_line(answer, self.version + 1)?;
+        self.config = Arc::new(alloc, config)?;
+        self.lines += 1;
+        self.version += 1;
+        Ok(())
+    }
+
+    /// A deployment that is refused: it changes nothing.
+    fn turn_down(
+        &mut self,
+        place: &[u8],
+        cause: Cause,
+        answer: &mut TextBuilder,
+    ) -> Result<(), Memory>
+        requires { self.old.lines < 2 ^ 40 }
+        ensures came { OnOk result (Wherever self.old (λ s. Came (turned_down s place.now cause) answer.new self.new)) }
+        ensures lines { OnOk result (self.new.lines ≡ self.old.lines + 1) }
+    {
+        answer.clear();
+        push_refused_deploy(answer, place, cause)?;
+        self.lines += 1;
+        Ok(())
+    }
+
+    /// A deployment: it is put in force, or refused.
     fn deploy(
         &mut self,
         alloc: Global,
@@ -117,39 +149,46 @@ impl Run {
         answer: &mut TextBuilder,
     ) -> Result<(), Memory>
         requires { self.old.lines < 2 ^ 40 }
-        ensures { OnOk result (AnsweredDeployment self.old (view value.now) answer.new self.new) }
+        ensures answered { OnOk result (Wherever self.old (λ s. AnsweredDeployment s (view value.now) answer.new self.new)) }
+        ensures lines { OnOk result (self.new.lines ≡ self.old.lines + 1) }
     {
-        let Some(deployed) = deployed_by(alloc, value)? else {
-            return self.refuse(BadCause::Unsupported, answer);
-        };
-        answer.clear();
-        push_deploy_line(answer, self.version + 1)?;
-        self.lines += 1;
-        self.version += 1;
-        self.deployed = deployed;
-        Ok(())
+        match config_of(alloc, value) {
+            Ok(config) => self.put_in_force(alloc, config, answer),
+            Err(ConfigFault::Refused { place, cause }) => {
+                self.turn_down(place.bytes(), cause, answer)
+            }
+            Err(ConfigFault::Memory) => Err(Memory),
+        }
     }
 
-    /// A request: it is judged by what is in force.
+    /// The version in force, to judge by.
+    fn picked(&self) -> Result<Picked, Memory>
+        ensures { IfOk result (IsPickedOf self.now) }
+    {
+        let _valid = self.config.rulesets();
+        Ok(Picked {
+            number: self.version,
+            stopped: false,
+            config: Arc::try_clone(&self.config)?,
+        })
+    }
+
+    /// A request and its reply: they are judged by the version in force.
     fn judge(
         &mut self,
         alloc: Global,
-        request: Request,
+        recorded: Recorded,
         answer: &mut TextBuilder,
-    ) -> Result<(), Memory>
-        requires { self.old.lines < 2 ^ 40 }
-        ensures { OnOk result (Came (judged self.old request) answer.new self.new) }
+    ) -> Result<(), StepFault>
+        requires lines { self.old.lines < 2 ^ 40 }
+        requires somewhere { IsSomewhere self.old }
+        ensures judged { OnOk result (Wherever self.old (λ s. JudgedSo s recorded answer.new self.new)) }
+        ensures spent { result ≡ Err StepFault.Spent → Wherever self.old (λ s. SpendsSo s recorded) }
+        ensures lines { OnOk result (self.new.lines ≡ self.old.lines + 1) }
     {
-        let came = copy_headers(alloc, request.headers.as_slice())?;
-        let parts = LineParts {
-            number: self.requests + 1,
-            version: self.version,
-            verdict: verdict_of(alloc, &self.deployed, &request, &self.lists)?,
-            request,
-            came,
-            counts: Counts::new(alloc),
-            reply: None,
-        };
+        let picked = self.picked()?;
+        let number = self.requests + 1;
+        let parts = judge_recorded(alloc, &mut self.counter, picked, number, recorded)?;
         answer.clear();
         push_line(answer, &parts)?;
         self.lines += 1;
@@ -163,22 +202,20 @@ impl Run {
         alloc: Global,
         given: &[u8],
         answer: &mut TextBuilder,
-    ) -> Result<(), Memory>
-        requires { self.old.lines < 2 ^ 40 }
-        ensures { OnOk result (AnsweredLine self.old given.now answer.new self.new) }
+    ) -> Result<(), StepFault>
+        requires lines { self.old.lines < 2 ^ 40 }
+        requires somewhere { IsSomewhere self.old }
+        ensures answered { OnOk result (Wherever self.old (λ s. AnsweredLine s given.now answer.new self.new)) }
+        ensures spent { result ≡ Err StepFault.Spent → Wherever self.old (λ s. IsSpentOn s given.now) }
+        ensures lines { OnOk result (self.new.lines ≡ self.old.lines + 1) }
     {
         match read_item(alloc, given) {
-            Ok(LineItem::Blank) => {
-                self.pass_by(answer);
-                Ok(())
-            }
-            Ok(LineItem::Deploy(value)) => self.deploy(alloc, &value, answer),
-            Ok(LineItem::Ask(recorded)) => {
-                let Recorded { request, reply: _ } = recorded;
-                self.judge(alloc, request, answer)
-            }
-            Err(fault) => self.refuse_for(fault, answer),
+            Ok(LineItem::Blank) => self.pass_by(answer),
+            Ok(LineItem::Deploy(value)) => self.deploy(alloc, &value, answer)?,
+            Ok(LineItem::Ask(recorded)) => self.judge(alloc, recorded, answer)?,
+            Err(fault) => self.refuse_for(fault, answer)?,
         }
+        Ok(())
     }
 
     /// How the run ends where the input does.

@@ -3,7 +3,7 @@ use Rattle.std.proofs.KnownBytes.{Appends-nil, Consumes-nil, Appends-trans, Cons
 use Rattle.edge_outside.specs.Faults.{Rose}
 use Rattle.edge_main.specs.declared.statuses.Status.TheVariants as status
 use Rattle.edge_main.specs.declared.replay.RunFault.TheVariants as fault
-use Rattle.edge_main.specs.Answered.{RunState}
+use Rattle.edge_main.specs.Answered.{opening}
 use Rattle.edge_main.specs.Running.{TurnOf, status_of}
 use Rattle.edge_main.proofs.OutputLemmas.{every_input_has_an_output}
 use Rattle.edge_main.proofs.RunningLemmas.{progress-opening, answers-none, took-input, judged-or-cut, long-status, same-fault}
@@ -25,11 +25,12 @@ lines-init g c =
     record {
       under_way = record {
         progress = λ text told. progress-opening c.in-Ok.replay (g.S.Source.left c.args.input.now) (g.K.Sink.got c.args.out.now) text opens told;
-        room = omega (arith, ap (λ (s : RunState). s.lines) opens.run, opens.weight);
+        room = omega (arith, opens.run.lines, opens.weight);
         bytes = [];
         consumed = Consumes-nil (g.S.Source.left c.args.input.now);
         appended = Appends-nil (g.S.Source.taken c.args.input.now);
         counted = opens.taken;
+        somewhere = (opening, opens.run);
       };
       input_kept = refl;
       out_kept = refl;
@@ -54,6 +55,7 @@ lines-preserved g c =
         appended = Appends-trans (g.S.Source.taken c.args.input.now) (g.S.Source.taken c.lines.input) (g.S.Source.taken c.turn.new.input)
             before.bytes took.bytes before.appended took.taken;
         counted = omega (arith, took.counted, before.counted, length-append before.bytes took.bytes);
+        somewhere = c.turn.ensures.somewhere next;
       };
       input_kept = c.in-Ok-Next.ensures.input_kept (λ e. let never : Ok c.in-Ok-Next.field-0 ≡ Err fault.Read = e in cc) ∙ c.lines.invariant.input_kept;
       out_kept = c.in-Ok-Next.ensures.out_kept (λ e. let never : Ok c.in-Ok-Next.field-0 ≡ Err fault.Write = e in cc) ∙ c.lines.invariant.out_kept;

@@ -1,19 +1,19 @@
-use Rattle.std.proofs.Common.{◌++◌, refl, ap, inl, ◌∙◌}
+use Rattle.std.proofs.Common.{◌++◌, refl, ap, ◌∙◌}
 use Rattle.trace_form.specs.declared.refusal.BadCause.TheVariants as cause
 use Rattle.edge_main.specs.Answered.{refused}
 use Rattle.edge_main.specs.Output as answered
-use Rattle.edge_main.proofs.RunLemmas.{OnOk-said, long-no_item}
+use Rattle.edge_main.proofs.RunLemmas.{long-no_item}
 use Rattle.edge_main.proofs.replay.Replay.take_long.Goals as goal
 
 pub returns-clause-ok : goal.returns-clause-ok
-returns-clause-ok c =
-    let s = c.args.self.now in
-    let came = c.in_ok-refuse.ensures in
-    OnOk-said c.push.result _ _
-    (λ pushed given long. (
-      refused s.run cause.LongLine,
-      answered.bad cause.LongLine (inl (long-no_item given long)) refl,
+returns-clause-ok c given long s at =
+    let old = c.args.self.now in
+    let came = c.in_ok-refuse.ensures.came s at in (
+      refused s cause.LongLine,
+      answered.bad cause.LongLine (long-no_item given long) refl,
       came.1,
-      pushed ∙ ap (λ xs. s.pending ++ xs) (c.bytes.ensures ∙ came.0),
-    ))
-    c.push.ensures.ok
+      c.in_ok-push.ensures.ok ∙ ap (λ xs. old.pending ++ xs) (c.bytes.ensures ∙ came.0),
+    )
+
+pub returns-clause-refused : goal.returns-clause-refused
+returns-clause-refused c s at = (c.in_ok-refuse.ensures.came s at).1

@@ -1,0 +1,18 @@
+use Rattle.std.proofs.Common.{◌≡◌, [], refl, ap, subst, ◌∙◌, sym}
+use Rattle.std.specs.Arc.{arc_value}
+use Rattle.rate_lane.specs.Lanes.{AreLanesOf}
+use Rattle.ruleset_model.specs.ConfigParts.{ConfigParts}
+use Rattle.edge_main.proofs.run.Run.new.Goals as goal
+
+pub returns : goal.returns
+returns c =
+    let empty : c.in_ok-empty.field-0 ≡ record { lists = []; rulesets = [] } =
+    λ i. record { lists = c.in_ok-empty.ensures.lists i; rulesets = c.in_ok-empty.ensures.rulesets i } in
+    record {
+      lines = refl;
+      requests = refl;
+      version = refl;
+      config = c.in_ok-config.ensures ∙ empty;
+      any_bad = refl;
+      counter = subst (λ n. AreLanesOf c.in_ok-new.field-0 n 4096 []) c.requires c.in_ok-new.ensures;
+    }
