@@ -42,6 +42,3 @@ pub use laws::{
 pub use lists::{front_is_settled, lists_of};
 pub use printing::print_config;
 pub use reading::read_document;
-
-#[cfg(test)]
-mod tests;

@@ -8,8 +8,6 @@ mod lists;
 mod rewrites;
 mod rules;
 mod skips;
-#[cfg(test)]
-mod tests;
 mod values;
 
 pub use document::print_config;

@@ -9,8 +9,6 @@ mod links;
 mod places;
 mod replies;
 mod requests;
-#[cfg(test)]
-mod tests;
 
 pub use causes::HeadFault;
 pub use links::read_request;

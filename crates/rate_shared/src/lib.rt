@@ -11,8 +11,6 @@ mod rule;
 mod seen;
 mod sharing;
 mod stepping;
-#[cfg(test)]
-mod tests;
 mod turns;
 
 pub use closing::{Numbers, Totals};

@@ -23,6 +23,3 @@ pub use members::{has_members, text_of};
 pub use output::{LineParts, line_of, push_bad_line, push_deploy_line, push_line};
 pub use reader::read_item;
 pub use refusal::{BadCause, LineFault};
-
-#[cfg(test)]
-mod tests;

@@ -13,8 +13,6 @@ mod notice;
 mod reader;
 mod shared;
 mod store;
-#[cfg(test)]
-mod tests;
 mod version;
 mod versions;
 

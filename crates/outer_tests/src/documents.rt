@@ -1,7 +1,6 @@
-use crate::places::{child, nth};
-use crate::{ConfigFault, config_of, print_config, read_config};
+use config_read::{ConfigFault, config_of, print_config, read_config};
 use edge_base::{Memory, Text, TextBuilder};
-use ruleset_model::Ruleset;
+use ruleset_model::{Config, Ruleset};
 use serde_json::Value;
 use std::alloc::Global;
 use std::test::Fail;
@@ -255,7 +254,7 @@ const URIS: [&str; 13] = [
 ];
 
 /// The parameters of a rewrite of headers.
-const HEADERS: [&str; 20] = [
+const HEADERS: [&str; 23] = [
     r#"{} -> /rulesets/0/rules/0/action_parameters/headers Missing"#,
     r#"{"uri":0} -> /rulesets/0/rules/0/action_parameters/uri Shape"#,
     r#"{"uri":{},"headers":0} -> /rulesets/0/rules/0/action_parameters/uri ActionPlace"#,
@@ -263,6 +262,9 @@ const HEADERS: [&str; 20] = [
     r#"{"headers":{}} -> ok 1 1"#,
     r#"{"headers":{"a":0}} -> /rulesets/0/rules/0/action_parameters/headers/a Shape"#,
     r#"{"headers":{"a b":{}}} -> /rulesets/0/rules/0/action_parameters/headers/a%20b Shape"#,
+    r#"{"headers":{"~/":{}}} -> /rulesets/0/rules/0/action_parameters/headers/~0~1 Shape"#,
+    r#"{"headers":{"%,":{}}} -> /rulesets/0/rules/0/action_parameters/headers/%25%2C Shape"#,
+    r#"{"headers":{"\u007f":{}}} -> /rulesets/0/rules/0/action_parameters/headers/%7F Shape"#,
     r#"{"headers":{"":{}}} -> /rulesets/0/rules/0/action_parameters/headers/ Shape"#,
     r#"{"headers":{"Host":{}}} -> /rulesets/0/rules/0/action_parameters/headers/Host ActionPlace"#,
     r#"{"headers":{"connection":{}}} -> /rulesets/0/rules/0/action_parameters/headers/connection ActionPlace"#,
@@ -441,16 +443,6 @@ fn the_first_refusal_of_a_redirect_is_told(rt: HostRuntime) -> Result<(), Fail> 
     Ok(())
 }
 
-/// Whether a row tells the place of the member that it names.
-fn is_place(alloc: Global, row: &str) -> Result<bool, Fail> {
-    match row.split_once(" -> ") {
-        Some((name, wanted)) => Ok(
-            child(alloc, b"/x", name.as_bytes())?.bytes() == wanted.as_bytes(),
-        ),
-        None => Ok(false),
-    }
-}
-
 /// The document of so many lists, each of which is a number.
 fn lists_of_numbers(alloc: Global, count: usize) -> Result<Text, Memory> {
     let mut out = TextBuilder::new(alloc);
@@ -463,28 +455,19 @@ fn lists_of_numbers(alloc: Global, count: usize) -> Result<Text, Memory> {
 }
 
 #[test]
-fn names_in_places_are_escaped(rt: HostRuntime) -> Result<(), Fail> {
-    let alloc = rt.alloc();
-    for row in [
-        "a b -> /x/a%20b",
-        "~/ -> /x/~0~1",
-        "%, -> /x/%25%2C",
-        "\u{7f} -> /x/%7F",
-        " -> /x/",
-    ] {
-        assert!(rt; is_place(alloc, row)?, "{row}");
-    }
-    let place = nth(alloc, b"/lists", 10)?;
-    assert_eq!(rt; place.bytes(), b"/lists/10".as_slice());
-    Ok(())
-}
-
-#[test]
 fn there_are_at_most_64_lists(rt: HostRuntime) -> Result<(), Fail> {
     let alloc = rt.alloc();
     for (count, wanted) in [(64, "/lists/0 Shape"), (65, "/lists TooMany")] {
         let document = lists_of_numbers(alloc, count)?;
         assert_eq!(rt; told(alloc, document.bytes())?.bytes(), wanted.as_bytes());
     }
+    Ok(())
+}
+
+#[test]
+fn the_empty_configuration_is_printed(rt: HostRuntime) -> Result<(), Fail> {
+    let config = Config::empty(rt.alloc())?;
+    let text = print_config(rt.alloc(), &config)?;
+    assert_eq!(rt; text.bytes(), b"{\"lists\":[],\"rulesets\":[]}".as_slice());
     Ok(())
 }

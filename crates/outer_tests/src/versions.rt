@@ -2,7 +2,6 @@ ghost use Rattle.std.specs.Prelude.{◌≡◌, IfOk, IfSome};
 ghost use Rattle.std.specs.List.{All};
 ghost use Rattle.version_store.specs.Books.{Opens};
 
-use crate::{Deployer, VersionReader, Versions};
 use edge_base::Memory;
 use ruleset_model::Config;
 use std::alloc::Global;
@@ -10,6 +9,7 @@ use std::process::Abort;
 use std::sync::Wait;
 use std::test::Fail;
 use std::thread::{Threads, join};
+use version_store::{Deployer, VersionReader, Versions};
 
 /// The last of the readers.
 fn last(deployer: &Deployer, readers: &mut Vec<VersionReader>) -> Option<VersionReader>

@@ -1,10 +1,10 @@
-mod lines;
 mod made;
 mod replies;
+mod written;
 
-use crate::{BadCause, LineFault, LineItem, push_bad_line, push_deploy_line, read_item};
 use edge_base::{Addr, Header, Request, TextBuilder};
 use std::test::Fail;
+use trace_form::{BadCause, LineFault, LineItem, push_bad_line, push_deploy_line, read_item};
 
 /// A line, and what it is or why it is no item.
 type Row = (&'static str, &'static str);

@@ -1,12 +1,12 @@
 mod causes;
-mod heads;
 mod limits;
 mod links;
+mod read;
 mod replies;
 
-use crate::{HeadFault, read_request, request_of};
 use edge_base::{Addr, Memory, Moment, Request, Text, TextBuilder};
 use edge_outside::{MemoryLink, Numbers, TextSink, TextSource};
+use http_front::{HeadFault, read_request, request_of};
 use std::alloc::Global;
 use std::process::Abort;
 

@@ -1,4 +1,3 @@
-use crate::{LineParts, line_of};
 use edge_base::{
     Addr, Header, Headers, Memory, Moment, Request, RuleName, RuleNames, Text, TextBuilder,
 };
@@ -6,6 +5,7 @@ use rate_plain::{Answer, Counted, Counts};
 use ruleset_model::{Response, Verdict, VerdictKind};
 use std::alloc::Global;
 use std::test::Fail;
+use trace_form::{LineParts, line_of};
 
 /// A verdict, the rules that were noted, the target, the position of the first step, a letter for what each step was told,
 /// until when, and the line that is written.

@@ -1,5 +1,5 @@
-use crate::{Made, made_line};
 use std::test::Fail;
+use trace_form::{Made, made_line};
 
 const DEPLOYMENT: &str =
     r#"{"deploy":{"rulesets":[{"id":"fw","kind":"zone","phase":"http_request_firewall_custom","rules":[{"id":"b1","expression":"http.request.uri.path eq \"/p7\"","action":"block"}]},{"id":"rl","kind":"zone","phase":"http_ratelimit","rules":[{"id":"l1","expression":"true","action":"block","ratelimit":{"characteristics":["ip.src"],"period":10,"requests_per_period":5,"mitigation_timeout":10}}]}]}}

@@ -1,10 +1,10 @@
 ghost use Rattle.std.specs.Prelude.{◌≡◌, ◌≤◌, ◌<◌, All, length, IfOk, OnOk};
 ghost use Rattle.rate_shared.specs.Callers.{shape_of, IsOf};
 
-use crate::{Counters, Seen, Seens, callers_are_sent, counters_are_shared};
 use edge_base::{Memory, Moment, RuleName, Text};
 use rate_lane::Lanes;
 use rate_plain::{Answer, Ask, Counted, Key, PlainCounter, StepFault, Tally, lane_of};
+use rate_shared::{Counters, Seen, Seens, callers_are_sent, counters_are_shared};
 use sqlite_items::Items;
 use std::alloc::Global;
 use std::hash::RandomState;

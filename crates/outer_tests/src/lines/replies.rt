@@ -1,8 +1,8 @@
 use super::name_of;
-use crate::{LineFault, LineItem, Recorded, read_item};
 use edge_base::{Moment, Reply, Text};
 use std::alloc::Global;
 use std::test::Fail;
+use trace_form::{LineFault, LineItem, Recorded, read_item};
 
 /// The moment, the peer and the reply of a request, and what its line is or why it is no item.
 type Row = (&'static str, &'static str, &'static str, &'static str);

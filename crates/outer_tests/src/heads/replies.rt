@@ -1,5 +1,5 @@
-use crate::reply_bytes;
 use edge_base::{Header, Headers, Memory, Text};
+use http_front::reply_bytes;
 use std::alloc::Global;
 use std::test::Fail;
 
