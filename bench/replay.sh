@@ -1,7 +1,9 @@
 #!/usr/bin/env bash
-# Measures `edge replay` on a million request lines behind a deployment, beside plain Rust that does the same. Three inputs
-# differ in the one rule: the path is compared; three tests of three fields; a hundred tests of the path in one expression.
-# usage: bench/replay.sh [LINES]      needs: the built program, cargo, python3 and Debian's librust-serde-json-dev
+# Measures `edge replay` on a million request lines behind a deployment, beside plain Rust that does the same. The inputs:
+# path: one rule compares the path; three: one rule has three tests of three fields; hundred: a hundred tests of the path in
+# one expression; mixed100 and mixed1000: so many rules of five kinds of conditions, of which none holds; list: one rule asks a
+# list of 50,000 blocks; limit: one limit for each of 10,000 addresses; made: what `edge make 7 LINES` writes.
+# usage: bench/replay.sh [LINES [INPUT ..]]     needs: the built program, cargo, python3 and Debian's librust-serde-json-dev
 # Prints for each input and program the best and the median of five runs, and the ratio of the two; the outputs are compared.
 set -eu
 here=$(cd "$(dirname "$0")" && pwd)
@@ -20,33 +22,67 @@ done
 plain=$here/plain/target/release/plain
 mkdir -p "$here/out"
 
-python3 - "$lines" "$here/out" <<'P'
+inputs="${*:2}"
+[ -n "$inputs" ] || inputs="path three hundred mixed100 mixed1000 list limit made"
+
+python3 - "$lines" "$here/out" $inputs <<'P'
 import json, sys
-n, folder = int(sys.argv[1]), sys.argv[2]
+n, folder, wanted = int(sys.argv[1]), sys.argv[2], sys.argv[3:]
 others = ['r%02d' % k for k in range(99)]
 expressions = {
     'path': 'http.request.uri.path eq "/p7"',
     'three': 'http.request.method eq "GET" and http.request.uri.path eq "/p7" and not http.request.headers["user-agent"][0] contains "bot"',
     'hundred': ' or '.join('http.request.uri.path eq "/%s"' % name for name in others + ['p7']),
 }
+mixed = [
+    'http.request.uri.path eq "/n%d"',
+    'http.host wildcard "*.n%d.example"',
+    'http.request.headers["user-agent"][0] contains "n%d"',
+    None,
+    'starts_with(http.request.uri.path, "/n%d/") and http.request.method eq "POST"',
+]
 
-def requests():
+def mixed_rule(k):
+    block = 11 * 2**24 + k * 256
+    where = 'ip.src in {%s/24}' % '.'.join(str(block >> shift & 255) for shift in (24, 16, 8, 0))
+    text = mixed[k % 5]
+    return {'id': 'm%d' % k, 'expression': text % k if text else where, 'action': 'block'}
+
+def firewall(rules):
+    return {'id': 'fw', 'kind': 'zone', 'phase': 'http_request_firewall_custom', 'rules': rules}
+
+def limits(most):
+    limit = {'characteristics': ['ip.src'], 'period': 10, 'requests_per_period': most, 'mitigation_timeout': 10}
+    rule = {'id': 'l1', 'expression': 'true', 'action': 'block', 'ratelimit': limit}
+    return {'id': 'rl', 'kind': 'zone', 'phase': 'http_ratelimit', 'rules': [rule]}
+
+def document(name):
+    if name in expressions:
+        assert len(expressions[name]) <= 4096
+        return {'rulesets': [firewall([{'id': 'b1', 'expression': expressions[name], 'action': 'block'}])]}
+    if name.startswith('mixed'):
+        return {'rulesets': [firewall([mixed_rule(k) for k in range(int(name[5:]))])]}
+    if name == 'list':
+        blocks = ['%d.%d.%d.0/25' % (20 + (k >> 16), k >> 8 & 255, k & 255) for k in range(50000)]
+        rule = {'id': 'b1', 'expression': 'ip.src in $blocked', 'action': 'block'}
+        return {'lists': [{'name': 'blocked', 'kind': 'ip', 'items': blocks}], 'rulesets': [firewall([rule])]}
+    return {'rulesets': [limits(5)]}
+
+def requests(addresses):
     x, t = 7, 0
     for _ in range(n):
         x = (x * 6364136223846793005 + 1442695040888963407) % 2**64
         r = x >> 33
-        t += (r // 128) % 2000
-        yield '{"at":%d,"ip":"10.0.0.%d","method":"GET","target":"/p%d?q=%d","headers":[["host","a.example"],["user-agent","curl/8.5.0"],["accept","*/*"]]}\n' % (t, r % 16, (r // 16) % 8, r % 1000)
+        t += (r // 128) % (2000 if addresses == 16 else 20)
+        ip = '10.0.0.%d' % (r % 16) if addresses == 16 else '10.0.%d.%d' % (r % addresses >> 8, r % addresses & 255)
+        yield '{"at":%d,"ip":"%s","method":"GET","target":"/p%d?q=%d","headers":[["host","a.example"],["user-agent","curl/8.5.0"],["accept","*/*"]]}\n' % (t, ip, (r // 16) % 8, r % 1000)
 
-outs = [open(folder + '/' + name + '.jsonl', 'w') for name in expressions]
-for out, expression in zip(outs, expressions.values()):
-    assert len(expression) <= 4096
-    rule = {'id': 'b1', 'expression': expression, 'action': 'block'}
-    ruleset = {'id': 'fw', 'kind': 'zone', 'phase': 'http_request_firewall_custom', 'rules': [rule]}
-    out.write(json.dumps({'deploy': {'rulesets': [ruleset]}}) + '\n')
-for line in requests():
-    for out in outs:
-        out.write(line)
+for name in wanted:
+    if name == 'made':
+        continue
+    with open(folder + '/' + name + '.jsonl', 'w') as out:
+        out.write(json.dumps({'deploy': document(name)}) + '\n')
+        out.writelines(requests(10000 if name == 'limit' else 16))
 P
 
 measure() { # the input, and the word for the plain program, if it wants one
@@ -99,6 +135,11 @@ P
   cmp "$here/out/edge.out" "$here/out/plain.out" && echo "the outputs are equal"
 }
 
-measure path
-measure three three
-measure hundred hundred
+for name in $inputs; do
+  case "$name" in
+    path) measure path ;;
+    mixed*) measure "$name" mixed ;;
+    made) "$edge" make 7 "$lines" >"$here/out/made.jsonl" && measure made made ;;
+    *) measure "$name" "$name" ;;
+  esac
+done

@@ -1,6 +1,12 @@
-//! The yardstick of `bench/replay.sh`: plain Rust that reads the same lines with `serde_json`, judges the same rule
+//! The yardstick of `bench/replay.sh`: plain Rust that reads the same lines with `serde_json`, judges the same rules
 //! and writes the same bytes as `edge replay`. Without a word it reads the rule's expression, which compares the path; with
-//! the word `three` or `hundred` the condition is the one written here by hand, whatever the expression is.
+//! the words `three`, `hundred`, `mixed`, `list`, `limit` and `made` the conditions are written here by hand, whatever the
+//! expressions are.
+mod limit;
+mod mixed;
+
+use limit::Limit;
+use mixed::{Blocks, Mixed};
 use serde_json::Value;
 use std::io::{self, BufRead, BufReader, BufWriter, Write};
 
@@ -13,9 +19,7 @@ struct Header {
 }
 
 struct Request {
-    #[allow(dead_code)]
     at: u64,
-    #[allow(dead_code)]
     from: u32,
     method: String,
     target: String,
@@ -30,6 +34,10 @@ enum Condition {
     Three,
     /// The path is one of these.
     OneOf(Vec<Vec<u8>>),
+    /// One of the mixed conditions.
+    Mixed(Mixed),
+    /// The address is in one of these blocks.
+    Listed(Blocks),
 }
 
 /// Which condition the word on the command line names.
@@ -38,6 +46,14 @@ enum Work {
     Read,
     Three,
     Hundred,
+    /// Many rules of mixed conditions.
+    Mixed,
+    /// One rule that asks a list of blocks.
+    List,
+    /// One limit for each address.
+    Limit,
+    /// The rules of the generator: one path, and one limit for each address.
+    Made,
 }
 
 struct Rule {
@@ -46,9 +62,16 @@ struct Rule {
     condition: Condition,
 }
 
+/// What a deployment puts in force: rules that block, in their order, and a limit behind them.
+#[derive(Default)]
+struct Rules {
+    blocking: Vec<Rule>,
+    limit: Option<Limit>,
+}
+
 enum Item {
     Blank,
-    Deploy(Option<Rule>),
+    Deploy(Rules),
     Ask(Request),
 }
 
@@ -139,21 +162,16 @@ fn path_of_form(text: &[u8]) -> Option<Vec<u8>> {
     blanks(tail).is_empty().then(|| rest[..end].to_vec())
 }
 
-fn only<'a>(value: &'a Value, name: &str) -> Option<Option<&'a Value>> {
-    match value.get(name)?.as_array()?.as_slice() {
-        [] => Some(None),
-        [only] => Some(Some(only)),
-        _ => None,
-    }
-}
-
 fn has(value: &Value, name: &str, wanted: &str) -> bool {
     value.get(name).and_then(Value::as_str) == Some(wanted)
 }
 
-fn condition(work: Work, expression: &str) -> Option<Condition> {
+fn condition(work: Work, number: usize, expression: &str, lists: Option<&Value>) -> Option<Condition> {
     match work {
         Work::Read => Some(Condition::Path(path_of_form(expression.as_bytes())?)),
+        Work::Limit | Work::Made => Some(Condition::Path(b"/p7".to_vec())),
+        Work::Mixed => Some(Condition::Mixed(Mixed::of(number))),
+        Work::List => Some(Condition::Listed(Blocks::of(lists?)?)),
         Work::Three => Some(Condition::Three),
         Work::Hundred => {
             let others = (0..99).map(|n| format!("/r{n:02}").into_bytes());
@@ -177,15 +195,17 @@ fn is_met(condition: &Condition, request: &Request) -> bool {
                 && !first_header(request, "user-agent").is_some_and(|agent| agent.contains("bot"))
         }
         Condition::OneOf(paths) => paths.iter().any(|wanted| path == wanted),
+        Condition::Mixed(mixed) => mixed.is_met(request, path),
+        Condition::Listed(blocks) => blocks.has(request.from),
     }
 }
 
-fn rule(work: Work, set_id: &str, value: &Value) -> Option<Rule> {
+fn rule(work: Work, set_id: &str, number: usize, value: &Value, lists: Option<&Value>) -> Option<Rule> {
     if value.as_object()?.len() != 3 || !has(value, "action", "block") {
         return None;
     }
     let id = value.get("id")?.as_str().filter(|id| is_id(id))?;
-    let condition = condition(work, value.get("expression")?.as_str()?)?;
+    let condition = condition(work, number, value.get("expression")?.as_str()?, lists)?;
     Some(Rule {
         set_id: set_id.to_string(),
         id: id.to_string(),
@@ -193,24 +213,29 @@ fn rule(work: Work, set_id: &str, value: &Value) -> Option<Rule> {
     })
 }
 
-fn deployment(work: Work, value: &Value) -> Option<Option<Rule>> {
-    if value.as_object()?.len() != 1 {
-        return None;
-    }
-    let Some(set) = only(value, "rulesets")? else {
-        return Some(None);
-    };
-    if set.as_object()?.len() != 4
-        || !has(set, "kind", "zone")
-        || !has(set, "phase", "http_request_firewall_custom")
-    {
+/// The rules of a ruleset that blocks.
+fn blocking(work: Work, set: &Value, lists: Option<&Value>) -> Option<Vec<Rule>> {
+    if set.as_object()?.len() != 4 || !has(set, "kind", "zone") {
         return None;
     }
     let set_id = set.get("id")?.as_str().filter(|id| is_id(id))?;
-    match only(set, "rules")? {
-        None => Some(None),
-        Some(value) => Some(Some(rule(work, set_id, value)?)),
+    let rules = set.get("rules")?.as_array()?;
+    rules.iter().enumerate().map(|(n, value)| rule(work, set_id, n, value, lists)).collect()
+}
+
+fn deployment(work: Work, value: &Value) -> Option<Rules> {
+    let lists = value.get("lists");
+    let mut taken = Rules::default();
+    for set in value.get("rulesets")?.as_array()? {
+        if has(set, "phase", "http_request_firewall_custom") {
+            taken.blocking = blocking(work, set, lists)?;
+        } else if has(set, "phase", "http_ratelimit") {
+            taken.limit = Some(Limit::of(set)?);
+        } else {
+            return None;
+        }
     }
+    Some(taken)
 }
 
 fn item(work: Work, line: &[u8]) -> Option<Item> {
@@ -259,17 +284,56 @@ fn escaped(out: &mut impl Write, text: &[u8]) -> io::Result<()> {
     Ok(())
 }
 
+/// Judges a request and writes its line, but for its number and its version.
+fn answer(out: &mut impl Write, rules: &mut Rules, steps: &mut u64, request: &Request) -> io::Result<()> {
+    let target = request.target.as_bytes();
+    if let Some(rule) = rules.blocking.iter().find(|rule| is_met(&rule.condition, request)) {
+        write!(out, "block:403 {}/{} ", rule.set_id, rule.id)?;
+        escaped(out, target)?;
+        return out.write_all(b" -\n");
+    }
+    let Some(limit) = &mut rules.limit else {
+        out.write_all(b"pass - ")?;
+        escaped(out, target)?;
+        return out.write_all(b" -\n");
+    };
+    let position = *steps;
+    *steps += 1;
+    match limit.step(request.from, request.at) {
+        None => {
+            out.write_all(b"pass - ")?;
+            escaped(out, target)?;
+            writeln!(out, " {position}:pass")
+        }
+        Some(until) => {
+            write!(out, "block:429 {} ", limit.name)?;
+            escaped(out, target)?;
+            writeln!(out, " {position}:over@{until}")
+        }
+    }
+}
+
+fn work_of(word: Option<&str>) -> Option<Work> {
+    match word {
+        None => Some(Work::Read),
+        Some("three") => Some(Work::Three),
+        Some("hundred") => Some(Work::Hundred),
+        Some("mixed") => Some(Work::Mixed),
+        Some("list") => Some(Work::List),
+        Some("limit") => Some(Work::Limit),
+        Some("made") => Some(Work::Made),
+        Some(_) => None,
+    }
+}
+
 fn main() -> io::Result<()> {
-    let work = match std::env::args().nth(1).as_deref() {
-        None => Work::Read,
-        Some("three") => Work::Three,
-        Some("hundred") => Work::Hundred,
-        Some(_) => std::process::exit(2),
+    let Some(work) = work_of(std::env::args().nth(1).as_deref()) else {
+        std::process::exit(2)
     };
     let mut input = BufReader::with_capacity(1 << 20, io::stdin().lock());
     let mut out = BufWriter::with_capacity(1 << 16, io::stdout().lock());
-    let (mut lines, mut requests, mut version) = (0u64, 0u64, 0u64);
-    let mut deployed: Option<Rule> = None;
+    let (mut lines, mut requests, mut version, mut steps) = (0u64, 0u64, 0u64, 0u64);
+    let mut rules = Rules::default();
     let mut any_bad = false;
     let mut line = Vec::new();
     loop {
@@ -284,24 +348,18 @@ fn main() -> io::Result<()> {
         match item(work, &line) {
             None => {
                 any_bad = true;
-                writeln!(out, "bad {lines} Unsupported")?;
+                writeln!(out, "bad {lines} Shape")?;
             }
             Some(Item::Blank) => {}
-            Some(Item::Deploy(rule)) => {
+            Some(Item::Deploy(taken)) => {
                 version += 1;
-                deployed = rule;
+                rules = taken;
                 writeln!(out, "deploy v{version}")?;
             }
             Some(Item::Ask(request)) => {
                 requests += 1;
-                let target = request.target.as_bytes();
                 write!(out, "{requests} v{version} ")?;
-                match deployed.as_ref().filter(|rule| is_met(&rule.condition, &request)) {
-                    None => out.write_all(b"pass - ")?,
-                    Some(rule) => write!(out, "block:403 {}/{} ", rule.set_id, rule.id)?,
-                }
-                escaped(&mut out, target)?;
-                out.write_all(b" -\n")?;
+                answer(&mut out, &mut rules, &mut steps, &request)?;
             }
         }
     }
