@@ -88,12 +88,12 @@ cut_below text (suc end) = of_last (cut_found text end) (cut_below text end) whe
 range_cut : (text : List ℕ) (first last : Addr) → IsRangeText text first last → (at : ℕ) × (at < suc (length text)) × HasCutAt text at
 range_cut text first last h =
     let at = length h.left in
-    let front : take at text ≡ h.left = ap (take at) h.spelled ∙ take_at h.left (dots ++ h.right) at refl in
+    let apart : text ≡ h.left ++ (dots ++ h.right) = h.spelled ∙ append_assoc h.left dots h.right in
+    let front : take at text ≡ h.left = ap (take at) apart ∙ take_at h.left (dots ++ h.right) at refl in
     let two : length dots ≡ 2 = refl in
     let size : length (h.left ++ dots) ≡ at + 2 = length-append h.left dots ∙ ap (λ n. at + n) two in
-    let joined : text ≡ (h.left ++ dots) ++ h.right = h.spelled ∙ sym (append_assoc h.left dots h.right) in
-    let back : drop (at + 2) text ≡ h.right = ap (drop (at + 2)) joined ∙ drop_at (h.left ++ dots) h.right (at + 2) size in
-    let within : length text ≡ at + length (dots ++ h.right) = ap length h.spelled ∙ length-append h.left (dots ++ h.right) in (
+    let back : drop (at + 2) text ≡ h.right = ap (drop (at + 2)) h.spelled ∙ drop_at (h.left ++ dots) h.right (at + 2) size in
+    let within : length text ≡ at + length (dots ++ h.right) = ap length apart ∙ length-append h.left (dots ++ h.right) in (
       at,
       (let long : length text ≡ at + (2 + length h.right) = within ∙ ap (λ n. at + n) (length-append dots h.right) in omega (arith, long)),
       (

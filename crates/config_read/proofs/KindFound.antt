@@ -23,11 +23,11 @@ use Rattle.type_check.specs.declared.sort.Stand.{Stand}
 use Rattle.type_check.specs.declared.sort.Stand.TheVariants as stand
 use Rattle.type_check.specs.declared.sort.Want.{Want}
 use Rattle.type_check.specs.declared.sort.Want.TheVariants as want
-use Rattle.type_check.specs.Checking.{Finding, fault, pattern, Report, Judge, is_clean, reported, mismatch, nothing, judge_step, judge_of, call_sort, sorts_of, literals_of, look_field, look_call, look_part, look_test, look_chain, look_lit, look_all, chain_judge, chain_sort, first_of, inner_call, IsAnswer}
+use Rattle.type_check.specs.Checking.{Finding, fault, pattern, Report, Judge, is_clean, reported, mismatch, nothing, judge_step, judge_of, call_sort, sorts_of, literals_of, look_field, look_call, look_part, look_test, look_chain, look_lit, look_all, chain_judge, chain_sort, first_of, inner_call, is_regex_replace, test_pattern, call_pattern, wildcard_causes, IsAnswer}
 use Rattle.type_check.specs.NamesFound.{field_of_name, function_of_name}
 use Rattle.type_check.specs.Places.{findings_of, is_colo, allows_reply, want_at, start, kind_of_sort, kind_at}
-use Rattle.type_check.specs.Sorts.{suits, wanted, inner, one, basic_of, first_stand}
-use Rattle.type_check.specs.TestKinds.{where_so}
+use Rattle.type_check.specs.Sorts.{suits, wanted, inner, one, basic_of, first_stand, test_stand}
+use Rattle.type_check.specs.TestKinds.{where_so, list_causes, text_causes}
 
 -- ---- nothing is found
 
@@ -89,27 +89,38 @@ part_suits causes s of place m sound =
 test_suits : (lists : List (List ℕ × Basic)) (t : Test) (s : Option Sort) (of : Judge) (place : Stand) (m : Mark)
     → IsAnswer (look_test lists t s of place m).found None → suits place s ≡ true
 test_suits lists t s of place m sound =
-    let (none, clean) = sound_node m _ _ _ sound in suited place _ s clean (nil_left _ _ (nil_right _ _ none))
+    let below = of.look (test_stand place) (inner m) in
+    let found = mismatch place below.found s in
+    let (none, clean) = sound_node m (list_causes lists t ++ found ++ text_causes t) (test_pattern t) below sound in
+    suited place below.found s clean (nil_right (list_causes lists t) found (nil_left (list_causes lists t ++ found) (text_causes t) none))
 
 call_suits : (found : Option FunctionId) (args : List Judge) (place : Stand) (m : Mark) → IsAnswer (look_call found args place m).found None
     → suits place (option_and_then (λ id. call_sort id (literals_of args) (sorts_of args)) found) ≡ true
 call_suits None args place m sound = absurd cc
 call_suits (Some id) args place m sound =
-    let (none, clean) = sound_node m _ _ _ sound in suited place _ (call_sort id (literals_of args) (sorts_of args)) clean (nil_left _ _ (nil_right _ _ none))
+    let below = look_all (first_stand id) args (inner_call id m) in
+    let s = call_sort id (literals_of args) (sorts_of args) in
+    let found = mismatch place below.found s in
+    let replaced = where_so (is_regex_replace id && m.replaced) cause.Misplaced in
+    let wild = wildcard_causes id (literals_of args) in
+    let (none, clean) = sound_node m (replaced ++ found ++ wild) (call_pattern id (literals_of args)) below sound in
+    suited place below.found s clean (nil_right replaced found (nil_left (replaced ++ found) wild none))
 
 chain_suits : (members : List Judge) → Suits (chain_judge members)
 chain_suits members place m sound =
-    let (none, clean) = sound_node m _ None _ sound in suited place _ (chain_sort (sorts_of members)) clean none
+    let below = look_all stand.Part members (inner m) in
+    let s = chain_sort (sorts_of members) in
+    let (none, clean) = sound_node m (mismatch place below.found s) None below sound in suited place below.found s clean none
 
 step_suits : (lists : List (List ℕ × Basic)) (replies : Bool) (x : open_expr.Expr-F Judge) → Suits (judge_step lists replies x)
 step_suits lists replies (open_expr.Lit l) place m sound = lit_suits (one (basic_of l)) place m sound
 step_suits lists replies (open_expr.Field name) place m sound = field_suits replies (field_of_name name) place m sound
 step_suits lists replies (open_expr.Call name args) place m sound = call_suits (function_of_name name) args place m sound
-step_suits lists replies (open_expr.At of n) place m sound = part_suits _ _ of place m sound
-step_suits lists replies (open_expr.Key of key) place m sound = part_suits _ _ of place m sound
+step_suits lists replies (open_expr.At of n) place m sound = part_suits [] _ of place m sound
+step_suits lists replies (open_expr.Key of key) place m sound = part_suits [] _ of place m sound
 step_suits lists replies (open_expr.Each of) place m sound = part_suits _ _ of place m sound
 step_suits lists replies (open_expr.Test of t) place m sound = test_suits lists t _ of place m sound
-step_suits lists replies (open_expr.Not of) place m sound = part_suits _ _ of place m sound
+step_suits lists replies (open_expr.Not of) place m sound = part_suits [] _ of place m sound
 step_suits lists replies (open_expr.And members) place m sound = chain_suits members place m sound
 step_suits lists replies (open_expr.Xor members) place m sound = chain_suits members place m sound
 step_suits lists replies (open_expr.Or members) place m sound = chain_suits members place m sound

@@ -7,7 +7,7 @@ use Rattle.edge_fields.specs.declared.kind.Basic.TheVariants as basic
 use Rattle.addr_set.specs.ItemTexts.{IsGoodText}
 use Rattle.list_store.specs.declared.part.ListPart.{ListPart}
 use Rattle.config_read.specs.Answered.{IsMet}
-use Rattle.config_read.specs.ListsOf.{item_table, list_table, lists_table, front_table, list_at, FrontPlaceholder}
+use Rattle.config_read.specs.ListsOf.{item_table, list_table, lists_table, front_table, list_at, IsItemOf}
 use Rattle.config_read.specs.Members.{text_of}
 use Rattle.config_read.proofs.MetLemmas.{met_refuse, met_unless, met_then, met_each}
 use Rattle.config_read.proofs.FoundItems.{found-good}

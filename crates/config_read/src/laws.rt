@@ -29,7 +29,6 @@ pub fn built_configurations_are_their_data()
 }
 
 /// A law: each document is taken, and stands for a configuration, or is refused.
-#[tactic(auto, using(crate::proofs::DocumentRead::documents_are_read))]
 pub fn documents_are_read()
     ensures { DocumentsAreRead }
 {}
