@@ -1,5 +1,6 @@
 -- The steps that an output shows: their positions, their answers, and that they are a legal history.
-use Rattle.std.proofs.Common.{◌≡◌, ℕ, zero, suc, ◌+◌, List, [], ◌∷◌, ◌++◌, map, length, length-append, map-append, Option, None, Some, refl, sym, ap, ap₂, subst, ◌∙◌, arith, append_assoc, append-nil}
+use Rattle.std.proofs.Common.{◌≡◌, ℕ, zero, suc, ◌+◌, List, [], ◌∷◌, ◌++◌, map, length, length-append, Option, None, Some, refl, sym, ap, ap₂, subst, ◌∙◌, arith, append_assoc, append-nil}
+use Rattle.std.proofs.lemmas.List.{map-append}
 use Rattle.rate_plain.specs.History.{Follows, IsLegal, entry_of}
 use Rattle.rate_plain.specs.Laws.{LegalStepByStep}
 use Rattle.rate_plain.specs.declared.entry.Ask.{Ask}
@@ -20,10 +21,15 @@ use Rattle.edge_main.specs.Shown.{steps_in, steps_of, counting_on, positions_of,
 
 -- ---- numbers in order
 counting-more : (first a b : ℕ) → counting_on first (a + b) ≡ counting_on first a ++ counting_on (first + a) b
-counting-more first zero b = ap (λ n. counting_on n b) (let same : first ≡ first + 0 = omega arith in same)
+counting-more first zero b =
+    let none : zero + b ≡ b = omega arith in
+    let same : first ≡ first + zero = omega arith in
+    ap (counting_on first) none ∙ ap (λ n. counting_on n b) same
 counting-more first (suc a) b =
+    let one : suc a + b ≡ suc (a + b) = omega arith in
     let same : suc first + a ≡ first + suc a = omega arith in
-    ap (λ rest. first ∷ rest) (counting-more (suc first) a b ∙ ap (λ n. counting_on (suc first) a ++ counting_on n b) same)
+    ap (counting_on first) one
+    ∙ ap (λ rest. first ∷ rest) (counting-more (suc first) a b ∙ ap (λ n. counting_on (suc first) a ++ counting_on n b) same)
 
 -- ---- what steps after a history are: as many entries more, at the places behind it, with their answers, and legal
 
@@ -112,7 +118,9 @@ module _ (law : LegalStepByStep) where
   pub positions_in_order : PositionsAreInOrder
   positions_in_order input run to is =
       let steps = run_steps opening to (lines_of input) run is in
-      steps.places ∙ ap (counting_on 0) (sym steps.more)
+      let more : length to.history ≡ 0 + length (steps_of run) = steps.more in
+      let size : length (steps_of run) ≡ length to.history = omega (arith, more) in
+      steps.places ∙ ap (counting_on 0) size
 
 -- ---- what is shown is judged
 told_shown : {A : Type 0} (talk : Talk A) (history : List Entry) → told talk (answers_in (talked talk history).counts) ≡ Done (talked talk history).ended

@@ -1,9 +1,11 @@
 -- A talk with the counter, step by step.
-use Rattle.std.proofs.Common.{◌≡◌, ℕ, ◌^◌, List, [], ◌∷◌, ◌++◌, length, Option, None, Some, inl, inr, refl, sym, ap, subst, ◌∙◌, append_assoc, append-nil}
+use Rattle.std.proofs.Common.{◌≡◌, ℕ, ◌^◌, List, [], ◌∷◌, ◌++◌, length, Option, None, Some, Result, Ok, Err, IsErrAnd, IsErrOf, inl, inr, refl, sym, ap, subst, ◌∙◌, append_assoc, append-nil}
 use Rattle.rate_plain.specs.declared.entry.Ask.{Ask}
 use Rattle.rate_plain.specs.declared.entry.Answer.{Answer}
 use Rattle.rate_plain.specs.declared.entry.Counted.{Counted}
 use Rattle.rate_plain.specs.declared.entry.Entry.{Entry}
+use Rattle.rate_plain.specs.declared.fault.StepFault.{StepFault}
+use Rattle.rate_plain.specs.declared.fault.StepFault.TheVariants as fault
 use Rattle.rate_lane.specs.declared.lanes.Lanes.{Lanes}
 use Rattle.judge_core.specs.Carried.{End}
 use Rattle.judge_core.specs.Judging.{seen_as}
@@ -12,6 +14,12 @@ use Rattle.judge_core.specs.Talk.{Talk, Ends, Asks, Stand, Counts, Done, after, 
 use Rattle.judge_core.proofs.TalkLemmas.{after_more, told_after}
 use Rattle.edge_main.specs.Counting.{replied, with_step, shown_step, talked, IsSpentIn}
 use Rattle.edge_main.specs.Stepping.{IsCounter, TookStep, IsTalking, IsUnder, IsTalked}
+
+-- a refusal that `?` hands on is the refusal
+pub same_fault : {T U : Type 0} (r : Result T StepFault) (x : StepFault) → IsErrAnd r (λ y. y ≡ x) → r ≡ Err fault.Spent
+    → IsErrOf {T = U} {E = StepFault} (Err x) fault.Spent
+same_fault (Ok value) x from is = absurd cc
+same_fault (Err y) x from is = let same : y ≡ x = from in cc
 
 -- ---- what is left of a talk
 

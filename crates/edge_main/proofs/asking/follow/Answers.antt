@@ -1,6 +1,7 @@
-use Rattle.std.proofs.Common.{refl}
+use Rattle.std.proofs.Common.{◌∙◌, None, Some, refl, subst, sym}
 use Rattle.std.specs.Arc.{arc_value}
 use Rattle.judge_core.specs.Stands.{judgement_of}
+use Rattle.edge_main.specs.Stepping.{IsBackedAs, back_for}
 use Rattle.edge_main.proofs.AskedLemmas.{backed_none, backed_some}
 use Rattle.edge_main.proofs.asking.follow.Goals as goal
 
@@ -9,17 +10,25 @@ returns-in_default-clause-follows g c history counts = record {
   verdict = refl;
   request = refl;
   backed =
-      backed_none g.listed (arc_value c.args.judged.config) (judgement_of c.args.judged) c.args.shown.now c.args.counter.now history counts;
+      subst
+      (λ used. IsBackedAs (back_for g.listed c.args.judged used history) c.args.shown.now c.args.counter.now c.args.shown.now None)
+      (sym c.in_default.is)
+      (backed_none g.listed (arc_value c.args.judged.config) (judgement_of c.args.judged) c.args.shown.now c.args.counter.now history counts);
 }
 
 pub returns-clause-follows : goal.returns-clause-follows
 returns-clause-follows g c history counts =
     let judged = c.args.judged in
-    let told = c.in_ok-judge_reply.ensures.backed history counts in
+    let told = c.in_ok-headers.ensures.backed history counts in
     record {
       verdict = c.in_ok-verdict.ensures;
       request = c.in_ok-request.ensures;
       backed =
-          backed_some g.listed (arc_value judged.config) (judgement_of judged) c.in-Some.reply c.in-Some.at c.args.shown.now
-          c.judge_reply.new.counter c.judge_reply.new.shown c.in_ok-judge_reply.field-0 c.in_ok-before.before history c.in_ok-before.ensures told;
+          subst
+          (λ used. IsBackedAs (back_for g.listed judged used history) c.args.shown.now c.judge_reply.new.counter c.judge_reply.new.shown
+          (Some (c.in_ok-before.before, c.in_ok-headers.field-0.headers)))
+          (sym c.in-Some.is)
+          (backed_some g.listed (arc_value judged.config) (judgement_of judged) c.in-Some.reply c.in-Some.at c.args.shown.now
+          c.judge_reply.new.counter c.judge_reply.new.shown c.in_ok-headers.field-0 c.in_ok-before.before history
+          (c.in_ok-before.ensures ∙ c.as_slice.ensures) told);
     }

@@ -1,5 +1,6 @@
 use Rattle.std.proofs.Common.{◌≡◌, ◌++◌, [], ◌∷◌, length, ap₂, ◌∙◌}
 use Rattle.rate_plain.specs.declared.entry.Counted.{Counted}
+use Rattle.edge_main.proofs.TalkedLemmas.{same_fault}
 use Rattle.edge_main.proofs.stepping.take_step.Goals as goal
 
 pub returns-clause-took : goal.returns-clause-took
@@ -13,4 +14,5 @@ returns-clause-took c history counts =
     }
 
 pub returns-in_err-answer-clause-spent : goal.returns-in_err-answer-clause-spent
-returns-in_err-answer-clause-spent c is history counts = (c.in_err-answer.ensures.spent 64 4096 history counts).0 is
+returns-in_err-answer-clause-spent c is history counts = 
+    (c.in_err-answer.ensures.spent 64 4096 history counts).0 (same_fault c.from_residual.result _ c.from_residual.ensures.1 is)
