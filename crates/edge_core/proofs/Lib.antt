@@ -1,0 +1,5 @@
+pub mod Places
+pub mod RunLemmas
+pub mod TurnedAway
+pub mod SinceLemmas
+pub mod SinceRuns
