@@ -1,26 +1,41 @@
 #!/usr/bin/env bash
-# Measures one call of each layer by the program `edge_bench`, and how a wildcard's time grows with the text. Steps on lanes
-# stand beside those of a plain Rust counter (bench/lanes), where cargo is there.
-# usage: bench/layers.sh      needs: the built program (`rt run` in crates/edge_bench) and python3
+# Measures one call of each layer by the program `edge_bench`, and how a wildcard's time grows with the text. Where cargo is
+# there, steps on lanes stand beside those of a plain Rust counter (bench/lanes), steps on shared counters beside those of 64
+# mutexes round it (bench/counters), and heads beside `httparse` with the same copies (bench/heads).
+# usage: bench/layers.sh [SECONDS [NAME ..]]      the rounds of a run take SECONDS at least (0.25); of the benches those of
+# these names alone
+# needs: the built program (`rt run` in crates/edge_bench) and python3; for heads Debian's librust-httparse-dev
 # Each bench runs five times without a round and five times with many, by turns. A call's time is the difference of the two
 # over the number of rounds, so that starting and building don't count. It includes picking what is asked for, some ns.
 set -eu
 here=$(cd "$(dirname "$0")" && pwd)
 program=$here/../crates/edge_bench/out/edge_bench
+registry=${CARGO_REGISTRY_DIR:-/usr/share/cargo/registry}
 command -v python3 >/dev/null || { echo "layers: no python3 here; left out"; exit 0; }
 [ -x "$program" ] || { echo "layers: the program isn't built; left out"; exit 0; }
-plain=
+lanes= counters= heads=
 if command -v cargo >/dev/null; then
-  (cd "$here/lanes" && cargo build --release --offline --quiet)
-  plain=$here/lanes/target/release/lanes
+  for name in lanes counters; do
+    (cd "$here/$name" && cargo build --release --offline --quiet)
+  done
+  lanes=$here/lanes/target/release/lanes
+  counters=$here/counters/target/release/counters
+  if ls -d "$registry"/httparse-* >/dev/null 2>&1; then
+    (cd "$here/heads" && cargo build --release --offline --quiet \
+      --config 'source.crates-io.replace-with="packaged"' \
+      --config "source.packaged.directory=\"$registry\"")
+    heads=$here/heads/target/release/heads
+  fi
 fi
 
-python3 - "$program" "$plain" <<'P'
+python3 - "$program" "$lanes" "$counters" "$heads" "$@" <<'P'
 import os, statistics, subprocess, sys, time
-edge, plain = sys.argv[1], sys.argv[2]
+edge, lanes, counters, heads = sys.argv[1:5]
 runs = 5
 # How long the rounds of one run take at least, and how many there are at most.
-long_enough, most_rounds = 0.25, 2 ** 30
+long_enough, most_rounds = float((sys.argv[5:] or ['0.25'])[0]), 2 ** 30
+# The benches that are taken; all, where none is named.
+named = sys.argv[6:]
 
 def run(name, size, rounds, program=edge):
     begun = time.perf_counter()
@@ -62,11 +77,19 @@ def shown(seconds):
     return '%.3g ns' % (seconds * 1e9)
 
 def told(name, size, ratio_to=None, program=edge):
+    if named and name not in named:
+        return None
     best, median, cpu, rounds, found = measure(name, size, program)
     ratio = '' if ratio_to is None else ', %.2f times the last' % (best / ratio_to)
     print('%-14s %6d  best %s, median %s, CPU %s (best), rounds %d, found %d%s' % (
         name if program == edge else 'plain', size, shown(best), shown(median), shown(cpu), rounds, found, ratio), flush=True)
     return best
+
+# How many times its own time is that of plain Rust, the first line over the second.
+def beside(name, size, ours, plain):
+    if plain and ours is not None:
+        theirs = told(name, size, None, plain)
+        print('%-14s %6d  %.2f times plain Rust' % (name, size, ours / theirs), flush=True)
 
 def load():
     return '%d processors, load %.2f' % (os.cpu_count(), os.getloadavg()[0])
@@ -102,9 +125,20 @@ for threshold in (5, 1000):
         for age in ('', '_worn'):
             name = 'lane_%d%s' % (threshold, age)
             last = told(name, size, last)
-            if plain:
-                theirs = told(name, size, None, plain)
-                print('%-14s %6d  %.2f times plain Rust' % (name, size, last / theirs), flush=True)
-print('lane_5_worn    250000  peak %d KiB' % run('lane_5_worn', 250000, 0)[3])
+            beside(name, size, last, lanes)
+if not named:
+    print('lane_5_worn    250000  peak %d KiB' % run('lane_5_worn', 250000, 0)[3])
+# A step on counters that so many threads share, each thread on a lane of its own, or all on one: the time is that of a round,
+# in which each thread takes a step, so where there are as many processors it may not grow with the threads that are apart.
+# `count_alone` takes the steps of one thread on lanes that are not shared.
+told('count_alone', 1)
+for name in ('count_apart', 'count_together'):
+    last = None
+    for size in (1, 2, 4):
+        last = told(name, size, last)
+        beside(name, size, last, counters)
+# A request of a browser's usual head, and of one with 80 fields more.
+for size in (0, 80):
+    beside('head', size, told('head', size), heads)
 print('at the end: %s' % load())
 P

@@ -2,8 +2,10 @@ use crate::addresses::addresses_found;
 use crate::arguments::{Names, arguments_found};
 use crate::expressions::tokens_found;
 use crate::faults::Fault;
+use crate::heads::headers_read;
 use crate::lanes::{Age, Threshold, steps_passed};
 use crate::picks::picks_beside;
+use crate::shared::{Meeting, steps_alone, steps_shared};
 use crate::texts::texts_found;
 use crate::wildcards::{Shape, matches_found};
 use edge_fields::FieldId;
@@ -27,10 +29,16 @@ pub enum Bench {
     Lane(Threshold, Age),
     /// A pick of the version in force, beside as many other readers as the size says.
     Pick,
+    /// A step on counters that as many threads share as the size says.
+    Count(Meeting),
+    /// The same steps by one thread on lanes.
+    CountAlone,
+    /// A request of a browser's usual head, with as many further fields as the size says.
+    Head,
 }
 
 /// Every bench.
-const BENCHES: [Bench; 14] = [
+const BENCHES: [Bench; 18] = [
     Bench::Lex,
     Bench::HasAddr,
     Bench::HasText,
@@ -45,6 +53,10 @@ const BENCHES: [Bench; 14] = [
     Bench::Lane(Threshold::Thousand, Age::New),
     Bench::Lane(Threshold::Thousand, Age::Worn),
     Bench::Pick,
+    Bench::Count(Meeting::Apart),
+    Bench::Count(Meeting::Together),
+    Bench::CountAlone,
+    Bench::Head,
 ];
 
 /// A bench at a size, and how often the call is made.
@@ -56,7 +68,7 @@ pub struct Job {
 }
 
 /// Each bench at a small size.
-pub const SMALL: [Job; 14] = [
+pub const SMALL: [Job; 18] = [
     Job {
         bench: Bench::Lex,
         size: 512,
@@ -127,6 +139,26 @@ pub const SMALL: [Job; 14] = [
         size: 1,
         rounds: 1000,
     },
+    Job {
+        bench: Bench::Count(Meeting::Apart),
+        size: 2,
+        rounds: 1000,
+    },
+    Job {
+        bench: Bench::Count(Meeting::Together),
+        size: 2,
+        rounds: 1000,
+    },
+    Job {
+        bench: Bench::CountAlone,
+        size: 2,
+        rounds: 1000,
+    },
+    Job {
+        bench: Bench::Head,
+        size: 0,
+        rounds: 10,
+    },
 ];
 
 impl Bench {
@@ -146,6 +178,10 @@ impl Bench {
             Bench::Lane(Threshold::Thousand, Age::New) => "lane_1000",
             Bench::Lane(Threshold::Thousand, Age::Worn) => "lane_1000_worn",
             Bench::Pick => "pick",
+            Bench::Count(Meeting::Apart) => "count_apart",
+            Bench::Count(Meeting::Together) => "count_together",
+            Bench::CountAlone => "count_alone",
+            Bench::Head => "head",
         }
     }
 
@@ -192,6 +228,11 @@ impl Job {
                 steps_passed(alloc, hasher, threshold, age, self.size, self.rounds)
             }
             Bench::Pick => picks_beside(rt, alloc, self.size, self.rounds),
+            Bench::Count(meeting) => {
+                steps_shared(rt, alloc, hasher, meeting, self.size, self.rounds)
+            }
+            Bench::CountAlone => steps_alone(alloc, hasher, self.size, self.rounds),
+            Bench::Head => headers_read(alloc, self.size, self.rounds),
             Bench::ArgNames => {
                 arguments_found(
                     alloc,

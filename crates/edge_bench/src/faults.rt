@@ -1,5 +1,6 @@
 use edge_base::Memory;
 use expr_lexer::LexFault;
+use http_front::HeadFault;
 use list_store::ListFault;
 use rate_plain::StepFault;
 use std::alloc::{AllocError, AllocFailed};
@@ -33,6 +34,16 @@ impl From<AllocError> for Fault {
 impl<T: Drop> From<AllocFailed<T>> for Fault {
     fn from(_refused: AllocFailed<T>) -> Fault {
         Fault::Memory
+    }
+}
+
+impl From<HeadFault> for Fault {
+    fn from(fault: HeadFault) -> Fault {
+        if fault == HeadFault::Memory {
+            Fault::Memory
+        } else {
+            Fault::Refused
+        }
     }
 }
 
@@ -90,7 +101,7 @@ impl Fault {
     pub fn said(self) -> &'static str {
         match self {
             Fault::Usage => {
-                "usage: edge_bench lex|has_addr|has_text|wild|wild_long|wild_middle|map|map_alike|names|lane_5|lane_5_worn|lane_1000|lane_1000_worn|pick SIZE ROUNDS"
+                "usage: edge_bench lex|has_addr|has_text|wild|wild_long|wild_middle|map|map_alike|names|lane_5|lane_5_worn|lane_1000|lane_1000_worn|pick|count_apart|count_together|count_alone|head SIZE ROUNDS"
             }
             Fault::Refused => "edge_bench: refused",
             Fault::Write => "edge_bench: write fault",

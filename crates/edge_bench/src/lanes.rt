@@ -12,10 +12,10 @@ use std::hash::RandomState;
 /// The most keys. No lane has more than it has room for.
 const MOST_SIZE: u32 = 250_000;
 
-const LANES: usize = 64;
+pub const LANES: usize = 64;
 
 /// How many live keys each lane has room for.
-const CAP: u32 = 4_096;
+pub const CAP: u32 = 4_096;
 
 /// In milliseconds.
 const PERIOD: u64 = 60_000;
@@ -61,7 +61,7 @@ impl Age {
 }
 
 /// An adding ask of the key of a place. Different places have different keys.
-fn ask_of(alloc: Global, place: u32, threshold: Threshold) -> Result<Ask, Fault> {
+pub fn ask_of(alloc: Global, place: u32, threshold: Threshold) -> Result<Ask, Fault> {
     let Some(asked) = Moment::of(0) else {
         return Err(Fault::Refused);
     };
@@ -94,13 +94,13 @@ fn asks_before(alloc: Global, end: u32, threshold: Threshold) -> Result<Vec<Ask>
 }
 
 /// Lanes without steps.
-fn new_lanes(alloc: Global, hasher: RandomState) -> Result<Lanes, Fault> {
+pub fn new_lanes(alloc: Global, hasher: RandomState) -> Result<Lanes, Fault> {
     let hashers = Vec::from_elem(alloc, hasher, LANES)?;
     Ok(Lanes::new(alloc, CAP, hashers)?)
 }
 
 /// Takes a step at a moment, and says whether it passed.
-fn passes(
+pub fn passes(
     alloc: Global,
     lanes: &mut Lanes,
     asks: &mut [Ask],
