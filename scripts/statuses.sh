@@ -20,6 +20,9 @@ head -c 1048577 /dev/zero | "$program" check; show $? 3 "a document of 1,048,577
 if [ -e /dev/full ]; then printf '{}' | "$program" check >/dev/full; show $? 6 "an answer that can't be written"; fi
 "$program" </dev/null; show $? 2 "no words"
 "$program" replay extra </dev/null; show $? 2 "the words 'replay extra'"
+"$program" replay --workers 0 </dev/null; show $? 2 "no workers"
+"$program" --help </dev/null; show $? 2 "an option that isn't there"
+"$program" check check </dev/null; show $? 2 "a command and a further word"
 "$program" replay <examples; show $? 5 "an input that is a folder"
 if [ -e /dev/full ]; then "$program" replay <examples/first.jsonl >/dev/full; show $? 6 "an output that is full"; fi
 exit $failed
