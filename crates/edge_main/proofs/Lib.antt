@@ -1,6 +1,7 @@
 pub mod AskedLemmas
 pub mod CheckLemmas
 pub mod DocumentLemmas
+pub mod MakingLemmas
 pub mod MeaningLemmas
 pub mod OutputLemmas
 pub mod RunLemmas

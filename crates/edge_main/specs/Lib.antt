@@ -5,6 +5,7 @@ pub mod Commands
 pub mod Counting
 pub mod Document
 pub mod Ended
+pub mod Making
 pub mod Named
 pub mod Output
 pub mod RunFaults
