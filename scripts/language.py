@@ -6,7 +6,7 @@ usage: scripts/language.py [PAGE]
 The page's blocks are marked: `request` and `lists` are what the examples are asked of; `value` holds lines
 `EXPRESSION -> VALUE`; `value of the reply` holds the same for the phase of the reply; `refused` holds lines
 `DOCUMENT -> PLACE CAUSE`; `replay` is a trace, and the next block marked `answer` is its output. EDGE names another
-program than the launcher of this clone.
+program than the one that is built here.
 """
 import json
 import os
@@ -17,7 +17,7 @@ from dataclasses import dataclass
 from pathlib import Path
 
 TOP = Path(__file__).resolve().parent.parent
-EDGE = os.environ.get("EDGE", str(TOP / "edge"))
+EDGE = os.environ.get("EDGE", str(TOP / "crates" / "edge" / "out" / "edge"))
 REQUEST_PHASE = "http_request_firewall_custom"
 REPLY_PHASE = "http_response_headers_transform"
 
@@ -156,6 +156,9 @@ def check_traces(blocks):
 
 
 def main():
+    if not os.access(EDGE, os.X_OK):
+        print("language: the program isn't built; left out")
+        sys.exit(0)
     page = Path(sys.argv[1]) if len(sys.argv) > 1 else TOP / "docs" / "LANGUAGE.md"
     blocks = blocks_of(page)
     cases = list(cases_of(blocks))

@@ -2,10 +2,11 @@
 # Shows that the converters of examples/logs fit real servers: starts each one that is installed on a loopback port of its
 # own, sends it the thirty requests of examples/logs/requests.txt, makes a trace of its log, replays that under rules.json
 # and compares with wanted.output, where the moments at which limits end are left out.
-# usage: scripts/logs.sh [FOLDER]     FOLDER keeps the logs and traces; EDGE names another program than the launcher
+# usage: scripts/logs.sh [FOLDER]     FOLDER keeps the logs and traces; EDGE names another program than the one built here
 set -u
 cd "$(dirname "$0")/.." || exit 1
-edge=${EDGE:-$PWD/edge} examples=$PWD/examples/logs kept=${1:-}
+edge=${EDGE:-$PWD/crates/edge/out/edge} examples=$PWD/examples/logs kept=${1:-}
+[ -x "$edge" ] || { echo "logs: the program isn't built; left out"; exit 0; }
 for tool in curl jq python3; do
   command -v $tool >/dev/null || { echo "logs: $tool isn't installed; left out"; exit 0; }
 done
