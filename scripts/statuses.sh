@@ -18,11 +18,18 @@ printf '{"rulesets":[{"id":"a"}]}' | "$program" check; show $? 3 "a ruleset with
 head -c 1048577 /dev/zero | "$program" check; show $? 3 "a document of 1,048,577 bytes"
 "$program" check <examples; show $? 5 "a document that is a folder"
 if [ -e /dev/full ]; then printf '{}' | "$program" check >/dev/full; show $? 6 "an answer that can't be written"; fi
+"$program" make 7 1 </dev/null; show $? 0 "a deployment and one request, made from a seed"
+"$program" make 7 1 <examples >/dev/null; show $? 0 "the same where the input is a folder: nothing is read of it"
+if [ -e /dev/full ]; then "$program" make 7 1000 </dev/null >/dev/full; show $? 6 "made lines that can't be written"; fi
+"$program" make 7 </dev/null; show $? 2 "the words 'make 7'"
+"$program" make 07 1 </dev/null; show $? 2 "a seed with a zero before it"
+"$program" make 7 10000001 </dev/null; show $? 2 "more than 10,000,000 requests"
 "$program" </dev/null; show $? 2 "no words"
 "$program" replay extra </dev/null; show $? 2 "the words 'replay extra'"
 "$program" replay --workers 0 </dev/null; show $? 2 "no workers"
 "$program" --help </dev/null; show $? 2 "an option that isn't there"
 "$program" check check </dev/null; show $? 2 "a command and a further word"
+"$program" -- replay </dev/null; show $? 0 "a command behind '--'"
 "$program" replay <examples; show $? 5 "an input that is a folder"
 if [ -e /dev/full ]; then "$program" replay <examples/first.jsonl >/dev/full; show $? 6 "an output that is full"; fi
 exit $failed

@@ -1,5 +1,6 @@
 pub mod AskedLemmas
 pub mod CheckLemmas
+pub mod CommandLemmas
 pub mod DocumentLemmas
 pub mod MakingLemmas
 pub mod MeaningLemmas

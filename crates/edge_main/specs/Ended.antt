@@ -9,6 +9,7 @@ use Rattle.edge_main.specs.declared.commands.Command.{Command}
 use Rattle.edge_main.specs.declared.commands.Command.TheVariants as command
 use Rattle.edge_main.specs.Answered.{RunState, opening, Answered}
 use Rattle.edge_main.specs.CheckEnded.{ChecksAs}
+use Rattle.edge_main.specs.Making.{MakesAs}
 use Rattle.edge_main.specs.Output.{IsRun, IsRunOf, IsOutput, texts_of}
 use Rattle.edge_main.specs.Spent.{WasSpent}
 
@@ -83,6 +84,7 @@ abbrev pub EndsBy : {I O : Type 0} → Option Command → (I → Option (List �
 EndsBy None left got ended input before after = Appends (got before) (got after) []
 EndsBy (Some command.Check) left got ended input before after = ChecksAs left got ended input before after
 EndsBy (Some command.Replay) left got ended input before after = EndsAs left got ended input before after
+EndsBy (Some (command.Make seed requests)) left got ended input before after = MakesAs got seed requests ended before after
 
 -- where no write failed, the answers of whole lines were written
 abbrev pub AnswersWhole : {I O : Type 0} → (I → Option (List ℕ)) → (O → ℕ) → (O → Option (List ℕ)) → Status → I → I → O → O → Type 0
@@ -96,6 +98,7 @@ AnswersBy None left faults got ended input input' before after = Unit {0}
 AnswersBy (Some command.Check) left faults got ended input input' before after = Unit {0}
 AnswersBy (Some command.Replay) left faults got ended input input' before after =
     AnswersWhole left faults got ended input input' before after
+AnswersBy (Some (command.Make seed requests)) left faults got ended input input' before after = Unit {0}
 
 -- where the words are a command, no read and no write failed and the input had fewer than 2^40 bytes, it was judged whole,
 -- or a step was one too many, or memory was refused

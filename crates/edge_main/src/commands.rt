@@ -1,16 +1,111 @@
-ghost use Rattle.std.specs.Prelude.{◌≡◌};
-ghost use Rattle.edge_main.specs.Commands.{command_named, command_in};
+//! The words of a command line, and the command that they are.
+
+ghost use Rattle.std.specs.Prelude.{◌≡◌, ◌≤◌, ◌↔◌, [], Some, map, bytes_eq, decimal, IsTrue, IfSome};
+ghost use Rattle.edge_main.specs.Commands.{is_dashed, number_of, making_of, command_named, command_in, places_of, left_in, TakesFirst, IsFew};
+
+use itoa::Buffer;
+
+/// The most requests that are made.
+const REQUESTS_MAX: u64 = 10_000_000;
 
 /// A command that waits for nobody.
 #[derive(Clone, Copy, Debug, PartialEq, Eq)]
 pub enum Command {
     Check,
     Replay,
+    /// A large valid input from a seed, with so many requests, at most 10,000,000.
+    Make(u64, u64),
+}
+
+/// Whether a word begins with `-`.
+fn is_dashed(word: &[u8]) -> bool
+    ensures { result ≡ is_dashed word.now }
+{
+    match word {
+        [] => false,
+        [first, ..] => *first == b'-',
+    }
+}
+
+/// Whether a word is what is written for a number in decimal.
+fn is_written(number: u64, word: &[u8]) -> bool
+    ensures { result ≡ bytes_eq word.now (decimal number) }
+{
+    let mut digits = Buffer::new();
+    word == digits.format(number).as_bytes()
+}
+
+/// The number, at most so great, that a word is in decimal, without a sign and without zeros before it.
+fn number_of(most: u64, word: &str) -> Option<u64>
+    ensures number { result ≡ number_of most word.now }
+    ensures within { IfSome result (λ number. number ≤ most) }
+{
+    let Ok(number) = word.parse::<u64>() else {
+        return None;
+    };
+    if is_written(number, word.as_bytes()) && number <= most {
+        Some(number)
+    } else {
+        None
+    }
+}
+
+/// The words that are left to read.
+#[derive(Clone, Copy, Debug)]
+pub struct Places<'a> {
+    pub words: &'a [&'a str],
+    /// Whether `--` has come: each word is a place then.
+    pub has_come: bool,
+}
+
+impl<'a> Places<'a> {
+    fn new(words: &'a [&'a str]) -> Places<'a>
+        ensures { left_in result ≡ places_of (map (λ word. word.now) words.now) }
+    {
+        Places {
+            words,
+            has_come: false,
+        }
+    }
+
+    /// Takes the first place.
+    fn take(&mut self) -> Option<&'a str>
+        ensures { TakesFirst (left_in self.old) result (left_in self.new) }
+    {
+        let [first, others @ ..] = self.words else {
+            return None;
+        };
+        if self.has_come || !is_dashed(first.as_bytes()) {
+            self.words = others;
+            return Some(*first);
+        }
+        if *first != "--" {
+            return None;
+        }
+        let [second, others @ ..] = others else {
+            return None;
+        };
+        self.words = others;
+        self.has_come = true;
+        Some(*second)
+    }
+
+    /// Whether all places were taken.
+    fn is_end(&self) -> bool
+        ensures { IsTrue result ↔ (left_in self.now ≡ Some []) }
+    {
+        match self.words {
+            [] => true,
+            [word] => !self.has_come && *word == "--",
+            [_, _, ..] => false,
+        }
+    }
 }
 
 /// The command of this name.
 fn command_named(word: &[u8]) -> Option<Command>
-    ensures { result ≡ command_named word.now }
+    ensures command { result ≡ command_named word.now }
+    ensures few { IfSome result IsFew }
 {
     if word == b"check".as_slice() {
         Some(Command::Check)
@@ -21,13 +116,27 @@ fn command_named(word: &[u8]) -> Option<Command>
     }
 }
 
+/// The making of so many requests from a seed.
+fn making_of(seed: &str, requests: &str) -> Option<Command>
+    ensures command { result ≡ making_of seed.now requests.now }
+    ensures few { IfSome result IsFew }
+{
+    let seed = number_of(u64::MAX, seed)?;
+    let requests = number_of(REQUESTS_MAX, requests)?;
+    Some(Command::Make(seed, requests))
+}
+
 /// The command that the words are. Takes no memory.
 pub fn command_of(words: &[&str]) -> Option<Command>
-    ensures { result ≡ command_in words.now }
+    ensures command { result ≡ command_in words.now }
+    ensures few { IfSome result IsFew }
 {
-    match words {
-        [] => None,
-        [word] => command_named(word.as_bytes()),
-        [_, _, ..] => None,
-    }
+    let mut places = Places::new(words);
+    let name = places.take()?;
+    let command = if name == "make" {
+        making_of(places.take()?, places.take()?)?
+    } else {
+        command_named(name.as_bytes())?
+    };
+    if places.is_end() { Some(command) } else { None }
 }

@@ -22,6 +22,5 @@ pub use laws::{
     every_input_has_an_output, history_is_legal, outputs_are_unique, runs_are_unique,
     shown_is_judged,
 };
-pub use making::make_trace;
 pub use quiet::edge_quiet;
 pub use statuses::Status;

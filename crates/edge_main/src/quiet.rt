@@ -2,11 +2,12 @@ ghost use Rattle.std.specs.Prelude.{◌≡◌, ◌≢◌, ◌<◌, ◌^◌, ◌�
 ghost use Rattle.std.specs.Io.KnownBytes.{Appends};
 ghost use Rattle.edge_outside.specs.Faults.{Rose};
 ghost use Rattle.edge_main.specs.Statuses.{said_of};
-ghost use Rattle.edge_main.specs.Commands.{command_in};
+ghost use Rattle.edge_main.specs.Commands.{command_in, IsFew};
 ghost use Rattle.edge_main.specs.Ended.{IsJudged, TookInput, Says, EndsBy, AnswersBy, IsComplete};
 
 use crate::checking::check_input;
 use crate::commands::{Command, command_of};
+use crate::making::make_trace;
 use crate::replay::replay_input;
 use crate::statuses::Status;
 use edge_outside::{Sink, Source, write_all};
@@ -28,7 +29,8 @@ fn run_command<S: Source, K: Sink>(
     input: &mut S,
     out: &mut K,
 ) -> Status
-    requires { vec_len hashers ≡ 64 }
+    requires hashers { vec_len hashers ≡ 64 }
+    requires few { IsFew command }
     ensures ended { EndsBy (Some command) S.left K.got result input.old out.old out.new }
     ensures answered { AnswersBy (Some command) S.left K.faults K.got result input.old input.new out.old out.new }
     ensures read { result ≡ Status.ReadFault → Rose (S.faults input.old) (S.faults input.new) }
@@ -41,10 +43,11 @@ fn run_command<S: Source, K: Sink>(
     match command {
         Command::Check => check_input(alloc, input, out),
         Command::Replay => replay_input(alloc, hashers, input, out),
+        Command::Make(seed, requests) => make_trace(alloc, seed, requests, out),
     }
 }
 
-/// Runs one command of those that wait for nobody: `check` or `replay`.
+/// Runs one command of those that wait for nobody: `check`, `replay` or `make`.
 pub fn edge_quiet<S: Source, K: Sink, E: Sink>(
     alloc: Global,
     words: &[&str],
