@@ -14,5 +14,5 @@ returns-clause-took c history counts =
     }
 
 pub returns-in_err-answer-clause-spent : goal.returns-in_err-answer-clause-spent
-returns-in_err-answer-clause-spent c is history counts = 
+returns-in_err-answer-clause-spent c is history counts =
     (c.in_err-answer.ensures.spent 64 4096 history counts).0 (same_fault c.from_residual.result _ c.from_residual.ensures.1 is)
