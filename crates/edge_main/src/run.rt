@@ -1,12 +1,8 @@
 //! How far a run of `replay` has come, line by line.
 
-ghost use Rattle.std.specs.Prelude.{◌≡◌, ◌≤◌, ◌<◌, ◌^◌, ◌+◌, ◌++◌, cond, Err, IfOk, OnOk, vec_len};
-ghost use Rattle.std.specs.Arc.{arc_value};
-ghost use Rattle.serde_json.specs.View.{view};
+ghost use Rattle.std.specs.Prelude.{◌≡◌, ◌≤◌, ◌++◌, OnOk};
 ghost use Rattle.config_read.specs.Causes.{cause_name};
-ghost use Rattle.edge_main.specs.Answered.{opening, passed_by, refused, turned_down, put_in_force, refused_deploy_line};
-ghost use Rattle.edge_main.specs.Spent.{IsSpentOn};
-ghost use Rattle.edge_main.specs.Running.{HasCome, IsSomewhere, Wherever, IsPickedOf, Came, RefusedFor, AnsweredDeployment, AnsweredLine, JudgedSo, SpendsSo};
+ghost use Rattle.edge_main.specs.Answered.{refused_deploy_line};
 
 use crate::asking::judge_recorded;
 use crate::checking::push_refused;
@@ -54,6 +50,12 @@ fn push_refused_deploy(out: &mut TextBuilder, place: &[u8], cause: Cause) -> Res
 }
 
 impl Run {
+    ghost use Rattle.std.specs.Prelude.{◌≡◌, ◌<◌, ◌^◌, ◌+◌, cond, Err, IfOk, OnOk, vec_len};
+    ghost use Rattle.serde_json.specs.View.{view};
+    ghost use Rattle.edge_main.specs.Answered.{opening, passed_by, refused, turned_down, put_in_force};
+    ghost use Rattle.edge_main.specs.Spent.{IsSpentOn};
+    ghost use Rattle.edge_main.specs.Running.{HasCome, IsSomewhere, Wherever, IsPickedOf, Came, RefusedFor, AnsweredDeployment, AnsweredLine, JudgedSo, SpendsSo};
+
     /// Nothing was read yet, and version 0 is in force. There is a hasher for each lane of the counter.
     pub fn new(alloc: Global, hashers: Vec<RandomState>) -> Result<Run, Memory>
         requires { vec_len hashers ≡ 64 }
