@@ -193,7 +193,7 @@ TurnsWithin turn replay replay' left left' = (before now : Option (List ℕ)) (t
 
 -- bytes were taken from a source, and the reader has counted them
 abbrev pub TookOf : {I : Type 0} → (I → Option (List ℕ)) → (I → Option (List ℕ)) → I → I → LineReader → LineReader → Type 0
-TookOf left taken input input' reader reader' = TookMore (left input) (left input') (taken input) (taken input') reader reader'
+TookOf left gone input input' reader reader' = TookMore (left input) (left input') (gone input) (gone input') reader reader'
 
 -- the end of the input: what is pending is written, and the run ends as its status promises
 abbrev pub ClosesAs : Replay → Status → (got got' : Option (List ℕ)) → Type 0
