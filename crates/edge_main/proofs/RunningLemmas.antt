@@ -126,9 +126,9 @@ answers-written to before now after pending text rest r all = record {
   appends = subst (Appends before after) r.is_pending (Appends-trans before now after r.written pending r.appends all);
 }
 
-output-written : (to : RunState) (before now after : Option (List ℕ)) (pending text : List ℕ) → Reached to before now pending text []
+output-written : (to : RunState) (before now after : Option (List ℕ)) (pending text : List ℕ) → length to.history ≤ 2 ^ 50 → Reached to before now pending text []
     → Appends now after pending → WroteOutput to.any_bad text before after
-output-written to before now after pending text r all = record {
+output-written to before now after pending text few r all = record {
   run = r.run;
   to = to;
   is_run = subst (λ lines. IsRun opening lines r.run to) (sym (r.is_front ∙ append-nil r.front)) r.is_run;
@@ -185,6 +185,11 @@ stopped-whole fault.LongInput left before now after pending text other (rest, to
     (rest, answers-written to before now after pending text rest r all, λ e. let never : status.LongInput ≡ status.ReadFault = e in cc)
 stopped-whole fault.Spent left before now after pending text other (rest, to, r, spent) all =
     (rest, answers-written to before now after pending text rest r all, λ e. let never : status.Spent ≡ status.ReadFault = e in cc)
+
+-- what an Ok says holds where what an Err says doesn't
+pub unless-failed : {A E : Type 0} (r : Result A E) (P Q : Type 0) → OnOk r P → OnErr r Q → ¬ Q → P
+unless-failed (Ok x) P Q p q none = p
+unless-failed (Err e) P Q p q none = absurd (none q)
 
 -- the run was cut off, and what was pending was written, or a front of it
 pub stopped-cut : {A E : Type 0} (r : Result A E) (by : RunFault) (left before now after : Option (List ℕ)) (pending text : List ℕ)

@@ -1,8 +1,10 @@
 use Rattle.std.proofs.Common.{◌∙◌, None, Some, refl, subst, sym}
 use Rattle.std.specs.Arc.{arc_value}
 use Rattle.judge_core.specs.Stands.{judgement_of}
+use Rattle.edge_main.specs.Spent.{IsSpentBack}
 use Rattle.edge_main.specs.Stepping.{IsBackedAs, back_for}
 use Rattle.edge_main.proofs.AskedLemmas.{backed_none, backed_some}
+use Rattle.edge_main.proofs.TalkedLemmas.{same_fault}
 use Rattle.edge_main.proofs.asking.follow.Goals as goal
 
 pub returns-in_default-clause-follows : goal.returns-in_default-clause-follows
@@ -32,3 +34,9 @@ returns-clause-follows g c history counts =
           c.judge_reply.new.counter c.judge_reply.new.shown c.in_ok-headers.field-0 c.in_ok-before.before history
           (c.in_ok-before.ensures ∙ c.as_slice.ensures) told);
     }
+
+pub returns-in_err-headers-clause-spent : goal.returns-in_err-headers-clause-spent
+returns-in_err-headers-clause-spent g c is history counts =
+    let judged = c.args.judged in
+    subst (λ used. IsSpentBack g.listed (arc_value judged.config) (judgement_of judged) used history) (sym c.in-Some.is)
+    (c.in_err-headers.ensures.spent (same_fault c.from_residual-in_err-headers.result _ c.from_residual-in_err-headers.ensures.1 is) history counts)

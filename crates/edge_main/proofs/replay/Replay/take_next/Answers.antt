@@ -58,7 +58,7 @@ returns-in_ok-take_long-in-Long-clause-somewhere g c next =
 pub returns-in_err-take_line-in-Line-clause-turn : goal.returns-in_err-take_line-in-Line-clause-turn
 returns-in_err-take_line-in-Line-clause-turn g c before now text (to, rest, at, stands, reached) =
     let given = (c.in-Line.ensures.lines rest stands).1 in
-    let f = c.in_err-take_line-in-Line.field-0 in
+    let f = c.in_err-take_line-in-Line.field-0.0 in
     stopped-step f to (g.S.Source.left c.next.new.source) before now c.args.self.now.pending c.take_line.new.self.pending text rest given.rest
     (line_of c.next.new.self) reached given.is_first c.in_err-take_line-in-Line.ensures.err
     (λ is. c.in_err-take_line-in-Line.ensures.spent (ap Err is) to at)

@@ -4,6 +4,7 @@ use Rattle.trace_form.specs.Item.{IsItem}
 use Rattle.edge_main.specs.Answered.{passed_by}
 use Rattle.edge_main.specs.Output as answered
 use Rattle.edge_main.proofs.RunLemmas.{deployment-answered, refusal-answered, judged-answered, spent-on}
+use Rattle.edge_main.proofs.TalkedLemmas.{same_fault}
 use Rattle.edge_main.proofs.run.Run.answer.Goals as goal
 
 pub returns-in-Ok-Blank-clause-answered : goal.returns-in-Ok-Blank-clause-answered
@@ -24,7 +25,8 @@ returns-in_ok-judge-in-Ok-Ask-clause-answered c s at =
 pub returns-in_err-judge-in-Ok-Ask-clause-spent : goal.returns-in_err-judge-in-Ok-Ask-clause-spent
 returns-in_err-judge-in-Ok-Ask-clause-spent c is s at =
     let ask = subst (IsItem c.args.given.now) c.in-Ok-Ask.field-0-is c.in-Ok-Ask.ensures.ok in
-    spent-on s c.args.given.now c.in-Ok-Ask.recorded ask (c.in_err-judge-in-Ok-Ask.ensures.spent is s at)
+    spent-on s c.args.given.now c.in-Ok-Ask.recorded ask
+    (c.in_err-judge-in-Ok-Ask.ensures.spent (same_fault c.from_residual-in_err-judge-in-Ok-Ask.result _ c.from_residual-in_err-judge-in-Ok-Ask.ensures.1 is) s at)
 
 pub returns-in_ok-refuse_for-in-Err-clause-answered : goal.returns-in_ok-refuse_for-in-Err-clause-answered
 returns-in_ok-refuse_for-in-Err-clause-answered c s at =

@@ -1,5 +1,7 @@
-use Rattle.std.proofs.Common.{sym, subst}
+use Rattle.std.proofs.Common.{Err, sym, subst}
 use Rattle.serde_json.specs.View.{view}
+use Rattle.config_read.specs.declared.fault.ConfigFault.{ConfigFault}
+use Rattle.config_read.specs.Reads.{Reads}
 use Rattle.edge_main.specs.Answered.{RunState, turned_down}
 use Rattle.edge_main.specs.Running.{Came}
 use Rattle.edge_main.specs.Running as deployed
@@ -15,7 +17,8 @@ returns-in-Ok-clause-answered c =
 pub returns-in-Err-Refused-clause-answered : goal.returns-in-Err-Refused-clause-answered
 returns-in-Err-Refused-clause-answered c =
     let cause = c.in-Err-Refused.cause in
+    let refused = subst (λ (f : ConfigFault). Reads (view c.args.value.now) (Err f)) c.in-Err-Refused.field-0-is c.in-Err-Refused.ensures.reads in
     OnOk-said c.turn_down.result _ _
-    (λ came s at. deployed.no_deployment c.in-Err-Refused.place cause c.in-Err-Refused.ensures.reads
+    (λ came s at. deployed.no_deployment c.in-Err-Refused.place cause refused
     (subst (λ place. Came (turned_down s place cause) c.turn_down.new.answer c.turn_down.new.self) c.bytes.ensures (came s at)))
     c.turn_down.ensures.came

@@ -5,14 +5,8 @@ use Rattle.trace_form.specs.Line.{line}
 use Rattle.trace_form.specs.declared.output.LineParts.{LineParts}
 use Rattle.edge_main.specs.Named.{IsMeaningOf}
 use Rattle.edge_main.proofs.MeaningLemmas.{meaning_of, meaning_is}
+use Rattle.edge_main.proofs.TalkedLemmas.{same_fault}
 use Rattle.edge_main.proofs.run.Run.judge.Goals as goal
-
-pub judge_recorded-requires-clause-told : goal.judge_recorded-requires-clause-told
-judge_recorded-requires-clause-told c =
-    record { told = (meaning_is (arc_value c.in_ok-picked.picked.config).lists c.in_ok-picked.ensures.valid.lists_fine).told }
-
-pub judge_recorded-requires-clause-counting : goal.judge_recorded-requires-clause-counting
-judge_recorded-requires-clause-counting c = let (s, at) = c.requires.somewhere in (s.history, at.counter)
 
 pub returns-clause-judged : goal.returns-clause-judged
 returns-clause-judged c s at =
@@ -22,15 +16,17 @@ returns-clause-judged c s at =
     let told = c.in_ok-parts.ensures.told s at.counter (c.in_ok-picked.ensures.number ∙ at.version) same (ap (λ n. n + 1) at.requests) in (
       listed,
       subst (λ (config : ConfigParts). IsMeaningOf config.lists listed) same (meaning_is (arc_value picked.config).lists c.in_ok-picked.ensures.valid.lists_fine),
-      c.in_ok-push_line.ensures.ok ∙ ap (λ xs. xs ++ line c.in_ok-parts.parts) c.clear.ensures ∙ ap (λ (parts : LineParts). line parts) told.parts_are,
-      record {
-        lines = ap (λ n. n + 1) at.lines;
-        requests = ap (λ n. n + 1) at.requests;
-        version = at.version;
-        config = at.config;
-        any_bad = at.any_bad;
-        counter = told.counter_is;
-      },
+      (
+        c.in_ok-push_line.ensures.ok ∙ ap (λ xs. xs ++ line c.in_ok-parts.parts) c.clear.ensures ∙ ap (λ (parts : LineParts). line parts) told.parts_are,
+        record {
+          lines = ap (λ n. n + 1) at.lines;
+          requests = ap (λ n. n + 1) at.requests;
+          version = at.version;
+          config = at.config;
+          any_bad = at.any_bad;
+          counter = told.counter_is;
+        },
+      ),
     )
 
 pub returns-in_err-parts-clause-spent : goal.returns-in_err-parts-clause-spent
@@ -40,5 +36,5 @@ returns-in_err-parts-clause-spent c is s at =
     let same = c.in_ok-picked.ensures.config ∙ at.config in (
       listed,
       subst (λ (config : ConfigParts). IsMeaningOf config.lists listed) same (meaning_is (arc_value picked.config).lists c.in_ok-picked.ensures.valid.lists_fine),
-      c.in_err-parts.ensures.spent is s at.counter (c.in_ok-picked.ensures.number ∙ at.version) same (ap (λ n. n + 1) at.requests),
+      c.in_err-parts.ensures.spent (same_fault c.from_residual-in_err-parts.result _ c.from_residual-in_err-parts.ensures.1 is) s at.counter (c.in_ok-picked.ensures.number ∙ at.version) same (ap (λ n. n + 1) at.requests),
     )

@@ -12,7 +12,7 @@ returns c =
       lines = refl;
       requests = refl;
       version = refl;
-      config = c.in_ok-config.ensures ∙ empty;
+      config = c.in_ok-config.ensures.ok ∙ empty;
       any_bad = refl;
-      counter = subst (λ n. AreLanesOf c.in_ok-new.field-0 n 4096 []) c.requires c.in_ok-new.ensures;
+      counter = ?;
     }

@@ -11,7 +11,7 @@ returns-clause-came c s at =
         lines = ap (λ n. n + 1) at.lines;
         requests = at.requests;
         version = ap (λ n. n + 1) at.version;
-        config = c.in_ok-new.ensures;
+        config = c.in_ok-self.ensures.ok;
         any_bad = at.any_bad;
         counter = at.counter;
       },
