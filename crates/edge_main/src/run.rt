@@ -8,7 +8,7 @@ use crate::asking::judge_recorded;
 use crate::checking::push_refused;
 use crate::statuses::Status;
 use config_read::{Cause, ConfigFault, config_of};
-use edge_base::{Memory, TextBuilder};
+use edge_base::{Memory, Text, TextBuilder};
 use rate_lane::Lanes;
 use rate_plain::StepFault;
 use ruleset_model::{Config, Picked};
@@ -129,16 +129,16 @@ impl Run {
     /// A deployment that is refused: it changes nothing.
     fn turn_down(
         &mut self,
-        place: &[u8],
+        place: Text,
         cause: Cause,
         answer: &mut TextBuilder,
     ) -> Result<(), Memory>
         requires { self.old.lines < 2 ^ 40 }
-        ensures came { OnOk result (Wherever self.old (λ s. Came (turned_down s place.now cause) answer.new self.new)) }
+        ensures came { OnOk result (Wherever self.old (λ s. Came (turned_down s place cause) answer.new self.new)) }
         ensures lines { OnOk result (self.new.lines ≡ self.old.lines + 1) }
     {
         answer.clear();
-        push_refused_deploy(answer, place, cause)?;
+        push_refused_deploy(answer, place.bytes(), cause)?;
         self.lines += 1;
         Ok(())
     }
@@ -156,9 +156,7 @@ impl Run {
     {
         match config_of(alloc, value) {
             Ok(config) => self.put_in_force(alloc, config, answer),
-            Err(ConfigFault::Refused { place, cause }) => {
-                self.turn_down(place.bytes(), cause, answer)
-            }
+            Err(ConfigFault::Refused { place, cause }) => self.turn_down(place, cause, answer),
             Err(ConfigFault::Memory) => Err(Memory),
         }
     }

@@ -1,4 +1,5 @@
 use Rattle.std.proofs.Common.{Err, refl, sym, ap, subst}
+use Rattle.std.proofs.lemmas.Result.{err_from_is_err_and}
 use Rattle.trace_form.specs.declared.refusal.BadCause.TheVariants as cause
 use Rattle.edge_main.specs.Answered.{refused}
 use Rattle.edge_outside.specs.Reading.{Stands, line_of}
@@ -59,6 +60,8 @@ pub returns-in_err-take_line-in-Line-clause-turn : goal.returns-in_err-take_line
 returns-in_err-take_line-in-Line-clause-turn g c before now text (to, rest, at, stands, reached) =
     let given = (c.in-Line.ensures.lines rest stands).1 in
     let f = c.in_err-take_line-in-Line.field-0.0 in
-    stopped-step f to (g.S.Source.left c.next.new.source) before now c.args.self.now.pending c.take_line.new.self.pending text rest given.rest
+    let p = err_from_is_err_and c.from_residual.result c.from_residual.ensures.1 in
+    rw (p.1, p.2)
+    (stopped-step f to (g.S.Source.left c.next.new.source) before now c.args.self.now.pending c.take_line.new.self.pending text rest given.rest
     (line_of c.next.new.self) reached given.is_first c.in_err-take_line-in-Line.ensures.err
-    (λ is. c.in_err-take_line-in-Line.ensures.spent (ap Err is) to at)
+    (λ is. c.in_err-take_line-in-Line.ensures.spent (ap Err is) to at))

@@ -1,9 +1,7 @@
-use Rattle.std.proofs.Common.{Err, sym, subst}
+use Rattle.std.proofs.Common.{Err, subst}
 use Rattle.serde_json.specs.View.{view}
 use Rattle.config_read.specs.declared.fault.ConfigFault.{ConfigFault}
 use Rattle.config_read.specs.Reads.{Reads}
-use Rattle.edge_main.specs.Answered.{RunState, turned_down}
-use Rattle.edge_main.specs.Running.{Came}
 use Rattle.edge_main.specs.Running as deployed
 use Rattle.edge_main.proofs.RunLemmas.{OnOk-said}
 use Rattle.edge_main.proofs.run.Run.deploy.Goals as goal
@@ -19,6 +17,5 @@ returns-in-Err-Refused-clause-answered c =
     let cause = c.in-Err-Refused.cause in
     let refused = subst (λ (f : ConfigFault). Reads (view c.args.value.now) (Err f)) c.in-Err-Refused.field-0-is c.in-Err-Refused.ensures.reads in
     OnOk-said c.turn_down.result _ _
-    (λ came s at. deployed.no_deployment c.in-Err-Refused.place cause refused
-    (subst (λ place. Came (turned_down s place cause) c.turn_down.new.answer c.turn_down.new.self) c.bytes.ensures (came s at)))
+    (λ came s at. deployed.no_deployment c.in-Err-Refused.place cause refused (came s at))
     c.turn_down.ensures.came

@@ -8,6 +8,13 @@ use Rattle.edge_main.proofs.MeaningLemmas.{meaning_of, meaning_is}
 use Rattle.edge_main.proofs.TalkedLemmas.{same_fault}
 use Rattle.edge_main.proofs.run.Run.judge.Goals as goal
 
+pub judge_recorded-requires : goal.judge_recorded-requires
+judge_recorded-requires c =
+    let (s, at) = c.requires.somewhere in (
+      record { told = (meaning_is (arc_value c.in_ok-picked.picked.config).lists c.in_ok-picked.ensures.valid.lists_fine).told },
+      (s.history, at.counter),
+    )
+
 pub returns-clause-judged : goal.returns-clause-judged
 returns-clause-judged c s at =
     let picked = c.in_ok-picked.picked in

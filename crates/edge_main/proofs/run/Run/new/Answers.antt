@@ -1,4 +1,4 @@
-use Rattle.std.proofs.Common.{◌≡◌, [], refl, ap, subst, ◌∙◌, sym}
+use Rattle.std.proofs.Common.{◌≡◌, [], length, arith, refl, ap, subst, ◌∙◌, sym}
 use Rattle.std.specs.Arc.{arc_value}
 use Rattle.rate_lane.specs.Lanes.{AreLanesOf}
 use Rattle.ruleset_model.specs.ConfigParts.{ConfigParts}
@@ -14,5 +14,7 @@ returns c =
       version = refl;
       config = c.in_ok-config.ensures.ok ∙ empty;
       any_bad = refl;
-      counter = ?;
+      counter =
+          let size : length c.args.hashers.items ≡ 64 = omega (arith, c.requires, c.args.hashers.ok) in
+          subst (λ n. AreLanesOf c.in_ok-new.field-0 n 4096 []) size c.in_ok-new.ensures;
     }
