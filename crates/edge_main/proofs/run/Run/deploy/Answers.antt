@@ -17,5 +17,5 @@ returns-in-Err-Refused-clause-answered c =
     let cause = c.in-Err-Refused.cause in
     let refused = subst (λ (f : ConfigFault). Reads (view c.args.value.now) (Err f)) c.in-Err-Refused.field-0-is c.in-Err-Refused.ensures.reads in
     OnOk-said c.turn_down.result _ _
-    (λ came s at. deployed.no_deployment c.in-Err-Refused.place cause refused (came s at))
+    (λ came s at. deployed.no_deployment c.in-Err-Refused.place cause refused (rw c.in-Err-Refused.field-0-is at (came s at)))
     c.turn_down.ensures.came
