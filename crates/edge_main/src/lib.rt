@@ -14,8 +14,6 @@ mod replay;
 mod run;
 mod statuses;
 mod stepping;
-#[cfg(test)]
-mod tests;
 
 pub use hashers::lane_hashers;
 pub use laws::{

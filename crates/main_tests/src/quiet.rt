@@ -1,8 +1,8 @@
 //! The commands on inputs in memory: worked examples, and each read and each write failing in turn.
 ghost use Rattle.std.specs.Prelude.{◌≡◌, ◌≤◌, vec_len};
 
-use crate::{Status, edge_quiet, lane_hashers};
 use edge_base::Text;
+use edge_main::{Status, edge_quiet, lane_hashers};
 use edge_outside::{Numbers, TextSink, TextSource};
 use std::alloc::Global;
 use std::hash::RandomState;
@@ -12,6 +12,7 @@ use std::test::Fail;
 
 mod checking;
 mod limits;
+mod making;
 mod rows;
 
 const DEPLOY: &str =

@@ -1,6 +1,6 @@
 //! `replay` on traces with limits.
 use super::{check, run, steady};
-use crate::{Status, lane_hashers};
+use edge_main::{Status, lane_hashers};
 use std::test::Fail;
 
 /// What each shows, its lines, and what they are answered.

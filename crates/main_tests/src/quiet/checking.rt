@@ -2,8 +2,8 @@
 ghost use Rattle.std.specs.Prelude.{◌≤◌};
 
 use super::{check, run, run_on, steady};
-use crate::{Status, lane_hashers};
 use edge_base::Text;
+use edge_main::{Status, lane_hashers};
 use std::process::Abort;
 use std::random::RandomSource;
 use std::test::Fail;

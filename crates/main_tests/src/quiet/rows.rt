@@ -1,6 +1,6 @@
 //! `replay` on whole traces: each with the lines that answer it.
 use super::{check, run, steady};
-use crate::{Status, lane_hashers};
+use edge_main::{Status, lane_hashers};
 use std::test::Fail;
 
 const BLOCK: &str =
