@@ -11,6 +11,7 @@ use std::random::RandomSource;
 use std::test::Fail;
 
 mod checking;
+mod judged;
 mod limits;
 mod making;
 mod rows;
