@@ -1,5 +1,5 @@
 use Rattle.rate_shared.specs.Callers.{IsOf}
-use Rattle.outer_tests.proofs.counters.walk.Given as goal
+use Rattle.counter_tests.proofs.counters.walk.Given as goal
 
 -- the caller stays one of these counters
 abbrev pub invariant-loop-place : goal.invariant-loop-place
