@@ -2,7 +2,6 @@ ghost use Rattle.std.specs.Prelude.{◌≡◌, ◌≤◌, ◌<◌, All, length, 
 ghost use Rattle.rate_shared.specs.Callers.{shape_of, IsOf};
 
 use edge_base::{Memory, Moment, RuleName, Text};
-use rate_lane::Lanes;
 use rate_plain::{Answer, Ask, Counted, Key, PlainCounter, StepFault, Tally, lane_of};
 use rate_shared::{Counters, Seen, Seens, callers_are_sent, counters_are_shared};
 use sqlite_items::Items;
@@ -182,11 +181,11 @@ fn put(rt: &impl Abort, row: &mut Vec<Option<Stepped>>, walked: &[Stepped]) {
     }
 }
 
-/// Takes the steps of a row in turn on a counter of one thread, each as it was told.
-fn replay<T: Tally>(
+/// Takes the steps of a row in turn on the plain counter, each as it was told.
+fn replay(
     rt: &impl Abort,
     alloc: Global,
-    tally: &mut T,
+    plain: &mut PlainCounter,
     keys: &[Key],
     row: &[Option<Stepped>],
 ) -> Result<(), StepFault> {
@@ -196,7 +195,7 @@ fn replay<T: Tally>(
         };
         assert!(rt; stepped.key < keys.len());
         let ask = ask(alloc, &keys[stepped.key], stepped.asked, stepped.adds)?;
-        let told = tally.step(alloc, stepped.caller, &ask)?;
+        let told = plain.step(alloc, stepped.caller, &ask)?;
         assert_eq!(rt; stepped.counted.answer, told);
     }
     Ok(())
@@ -239,34 +238,14 @@ fn two_callers_share_one_key(rt: HostRuntime) -> Result<(), Fail> {
 }
 
 #[test]
-fn four_callers_share_eight_keys(rt: HostRuntime) -> Result<(), Fail> {
+fn ten_thousand_steps_of_four_callers_share_eight_keys(rt: HostRuntime) -> Result<(), Fail> {
     let alloc = rt.alloc();
     let keys = keys(alloc, 8)?;
     let (counters, seens) = counters_of(alloc, RandomState::new(&rt)?, 4, 4)?;
-    let row = walk_all(&rt, alloc, &counters, seens, keys.as_slice(), 250)?;
-    let mut plain = PlainCounter::new(alloc, 4, 8);
-    replay(&rt, alloc, &mut plain, keys.as_slice(), row.as_slice())?;
-    Ok(())
-}
-
-/// Lanes of one thread, with room for 8 live keys each.
-fn lanes_of(alloc: Global, hasher: RandomState, lanes: u32) -> Result<Lanes, Memory>
-    requires { (1 ≤ lanes) × (lanes ≤ 1024) }
-{
-    let hashers = Vec::from_elem(alloc, hasher, lanes as usize)?;
-    Lanes::new(alloc, 8, hashers)
-}
-
-#[test]
-fn ten_thousand_steps_are_those_of_one_thread(rt: HostRuntime) -> Result<(), Fail> {
-    let alloc = rt.alloc();
-    let keys = keys(alloc, 8)?;
-    let hasher = RandomState::new(&rt)?;
-    let (counters, seens) = counters_of(alloc, hasher, 4, 4)?;
     counters_are_shared(&counters);
     let row = walk_all(&rt, alloc, &counters, seens, keys.as_slice(), 2_500)?;
-    let mut lanes = lanes_of(alloc, hasher, 4)?;
-    replay(&rt, alloc, &mut lanes, keys.as_slice(), row.as_slice())?;
+    let mut plain = PlainCounter::new(alloc, 4, 8);
+    replay(&rt, alloc, &mut plain, keys.as_slice(), row.as_slice())?;
     Ok(())
 }
 

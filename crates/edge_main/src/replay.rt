@@ -1,7 +1,7 @@
-ghost use Rattle.std.specs.Prelude.{◌≡◌, ◌≢◌, ◌+◌, ◌≤◌, ◌<◌, ◌^◌, ◌⊎◌, ◌↔◌, ℕ, List, [], ◌++◌, length, take, Option, Some, Result, Ok, Err, IfOk, OnOk, OnErr, vec_len};
+ghost use Rattle.std.specs.Prelude.{◌≡◌, ◌≢◌, ◌+◌, ◌≤◌, ◌<◌, ◌^◌, ◌⊎◌, ◌↔◌, IsTrue, ℕ, List, [], ◌++◌, length, take, Option, Some, Result, Ok, Err, IfOk, OnOk, OnErr, vec_len};
 ghost use Rattle.std.specs.Io.KnownBytes.{Appends};
 ghost use Rattle.edge_outside.specs.Faults.{Rose};
-ghost use Rattle.edge_outside.specs.Reading.{line_of, weight};
+ghost use Rattle.edge_outside.specs.Reading.{line_of, weight, HoldsLine};
 ghost use Rattle.edge_main.specs.Ended.{IsJudged, TookInput, EndsAs, AnswersWhole};
 ghost use Rattle.edge_main.specs.Running.{IsSomewhere, IsOpening, WrotePending, TakesLine, SpendsOn, TakesLong, Refuses, Turns, TurnsWithin, TookOf, status_of};
 ghost use Rattle.edge_main.specs.Running.{ClosesAs, ClosesWhole, StopsAs, StopsWhole};
@@ -77,14 +77,15 @@ impl From<StepFault> for RunFault {
     }
 }
 
-/// Writes what is pending, where it is enough for a piece.
-fn write_piece<K: Sink>(pending: &mut TextBuilder, out: &mut K) -> Result<(), Failed>
+/// Writes what is pending, where it is due or enough for a piece.
+fn write_piece<K: Sink>(pending: &mut TextBuilder, due: bool, out: &mut K) -> Result<(), Failed>
+    ensures due { OnOk result (IsTrue due → pending.new ≡ []) }
     ensures ok { OnOk result (WrotePending (K.got out.old) (K.got out.new) pending.old pending.new) }
     ensures err { OnErr result ((count : ℕ) × Appends (K.got out.old) (K.got out.new) (take count pending.old)) }
     ensures kept { OnOk result (K.faults out.new ≡ K.faults out.old) }
     ensures failed { OnErr result (Rose (K.faults out.old) (K.faults out.new)) }
 {
-    if PIECE <= pending.len() {
+    if due || PIECE <= pending.len() {
         write_all(out, pending.bytes())?;
         pending.clear();
     }
@@ -167,7 +168,8 @@ impl Replay {
         Ok(Turn::Next)
     }
 
-    /// One turn of the run: reads and answers a line, and writes what is pending where it is enough for a piece.
+    /// One turn of the run: reads and answers a line, and writes what is pending where it is enough for a piece. Where the
+    /// next line doesn't stand whole in what was taken, all that is pending is written before the next turn waits for it.
     fn turn<S: Source, K: Sink>(
         &mut self,
         alloc: Global,
@@ -186,9 +188,11 @@ impl Replay {
         ensures out_kept { result ≢ Err RunFault.Write → K.faults out.new ≡ K.faults out.old }
         ensures limit { (result ≡ Err RunFault.LongInput) ↔ (self.new.reader.taken ≡ 2 ^ 40) }
         ensures took { TookOf S.left S.taken input.old input.new self.old.reader self.new.reader }
+        ensures at_once { OnOk result ((self.new.pending ≡ []) ⊎ HoldsLine self.new.reader) }
     {
         let turn = self.take_next(alloc, input)?;
-        match write_piece(&mut self.pending, out) {
+        let due = !self.reader.holds_line();
+        match write_piece(&mut self.pending, due, out) {
             Ok(()) => Ok(turn),
             Err(Failed) => Err(RunFault::Write),
         }

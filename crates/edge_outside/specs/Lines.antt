@@ -16,3 +16,7 @@ lines_of (byte ∷ bytes) = in_front (byte == newline) byte (lines_of bytes)
 -- no byte is a newline
 abbrev pub NoNewline : List ℕ → Type 0
 NoNewline bytes = (k : ℕ) → k < length bytes → slice_index bytes k ≢ newline
+
+-- some byte is a newline
+abbrev pub HasNewline : List ℕ → Type 0
+HasNewline bytes = ¬ NoNewline bytes

@@ -2,7 +2,7 @@
 use Rattle.std.specs.Prelude.{◌≡◌, ℕ, ◌+◌, ◌-◌, ◌^◌, ◌<◌, ◌≤◌, Bool, true, false, List, [], ◌∷◌, ◌++◌, length, Option, Some, None}
 use Rattle.std.specs.Prelude.{option_to_list, if◌then◌else◌, Result, IfOk}
 use Rattle.std.specs.Io.KnownBytes.{Appends, Consumes, IsAtEnd}
-use Rattle.edge_outside.specs.Lines.{lines_of, NoNewline}
+use Rattle.edge_outside.specs.Lines.{lines_of, NoNewline, HasNewline}
 use Rattle.edge_outside.specs.Told.{Gave}
 use Rattle.edge_outside.specs.declared.failure.Failed.{Failed}
 use Rattle.edge_outside.specs.declared.line_reader.LineReader.{LineReader}
@@ -77,6 +77,10 @@ abbrev pub TakesOn : {S : Type 0} → (S → Option (List ℕ)) → (S → Optio
 TakesOn left taken source source' reader reader' =
     (bytes : List ℕ) × Consumes (left source) (left source') bytes × Appends (taken source) (taken source') bytes
     × (reader'.taken ≡ reader.taken + length bytes)
+
+-- the next line stands whole in what was taken
+abbrev pub HoldsLine : LineReader → Type 0
+HoldsLine reader = HasNewline reader.buffer.rest
 
 -- all that was taken was looked at
 abbrev pub IsLooked : LineReader → Type 0

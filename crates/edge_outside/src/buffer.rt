@@ -2,7 +2,7 @@ ghost use Rattle.std.specs.Prelude.{◌≡◌, ◌↔◌, [], ◌+◌, ◌-◌, 
 ghost use Rattle.std.specs.Io.KnownBytes.{IsAtEnd, Keeps};
 ghost use Rattle.edge_outside.specs.Faults.{Rose};
 ghost use Rattle.edge_outside.specs.Held.{Held, Cut, Looked};
-ghost use Rattle.edge_outside.specs.Lines.{NoNewline};
+ghost use Rattle.edge_outside.specs.Lines.{NoNewline, HasNewline};
 ghost use Rattle.edge_outside.specs.Told.{Gave};
 
 use crate::failure::Failed;
@@ -113,6 +113,16 @@ impl Buffer {
         ensures { IsTrue result ↔ (self.now.begun ≡ []) }
     {
         self.from == self.looked
+    }
+
+    /// Whether there is a newline not looked at yet, so that `cut` cuts a line.
+    pub fn has_newline(&self) -> bool
+        ensures { IsTrue result ↔ HasNewline self.now.rest }
+    {
+        match memchr(b'\n', &self.bytes[self.looked..self.to]) {
+            Some(_) => true,
+            None => false,
+        }
     }
 
     /// Cuts the line up to the first newline not looked at yet. Where there is none, all was looked at.

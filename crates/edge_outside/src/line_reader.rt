@@ -39,11 +39,11 @@ pub struct LineReader {
 
 impl LineReader {
     ghost use Rattle.std.specs.Prelude.{◌≡◌, ◌≢◌, ◌↔◌, ℕ, List, ◌^◌, ◌<◌, ◌≤◌, ◌⊎◌, false, if◌then◌else◌, length, Some};
-    ghost use Rattle.std.specs.Prelude.{IfOk, OnOk, OnErr, IfSome, IfNone, OnSome};
+    ghost use Rattle.std.specs.Prelude.{IsTrue, IfOk, OnOk, OnErr, IfSome, IfNone, OnSome};
     ghost use Rattle.std.specs.Io.KnownBytes.{IsAtEnd};
     ghost use Rattle.edge_outside.specs.Faults.{Rose};
     ghost use Rattle.edge_outside.specs.Lines.{NoNewline};
-    ghost use Rattle.edge_outside.specs.Reading.{line_of, ahead_of, Stands, StepsOn, StepsInside, StepsAtEnd, StandsStill, TookFrom, TakesOn, IsLooked, weight};
+    ghost use Rattle.edge_outside.specs.Reading.{line_of, ahead_of, Stands, StepsOn, StepsInside, StepsAtEnd, StandsStill, TookFrom, TakesOn, HoldsLine, IsLooked, weight};
 
     /// Takes a buffer of 1 MiB.
     pub fn new(alloc: Global) -> Result<LineReader, Memory>
@@ -65,6 +65,13 @@ impl LineReader {
         ensures { result.now ≡ line_of self.now }
     {
         self.buffer.line()
+    }
+
+    /// Whether the next line stands whole in what was taken, so that `next` gives it without a read.
+    pub fn holds_line(&self) -> bool
+        ensures { IsTrue result ↔ HoldsLine self.now }
+    {
+        self.buffer.has_newline()
     }
 
     /// The answer to a line that was cut: it is long where its front was read past.
