@@ -227,45 +227,44 @@ fn check_read<R: Abort + RandomSource + AllocGlobal>(
     Ok(())
 }
 
-/// The k-th write fails: what was written before stands.
+/// A command, its input, and all that it writes where no write fails.
+struct Case {
+    words: &'static [&'static str],
+    input: &'static str,
+    whole: &'static str,
+}
+
+/// The k-th write fails: what was written before stands, so many bytes.
 fn check_write<R: Abort + RandomSource + AllocGlobal>(
     rt: &R,
+    case: &Case,
     piece: usize,
     k: u16,
+    written: usize,
 ) -> Result<(), Fail>
     requires { 1 ≤ piece }
 {
     let alloc = rt.alloc();
     let mut streams = steady(alloc, piece);
     streams.writes.push(u64::from(k))?;
-    let ran = run(
-        alloc,
-        lane_hashers(rt, alloc)?,
-        &["replay"],
-        DEPLOY,
-        streams,
-    )?;
-    let written = piece.saturating_mul(usize::from(k));
-    if written < BLOCKED.len() {
-        check(
-            rt,
-            &ran,
-            Status::WriteFault,
-            &BLOCKED.as_bytes()[..written],
-            b"edge: write fault\n",
-        );
+    let hashers = lane_hashers(rt, alloc)?;
+    let ran = run(alloc, hashers, case.words, case.input, streams)?;
+    let whole = case.whole.as_bytes();
+    if written < whole.len() {
+        let front = &whole[..written];
+        check(rt, &ran, Status::WriteFault, front, b"edge: write fault\n");
     } else {
-        check(rt, &ran, Status::Done, BLOCKED.as_bytes(), b"");
+        check(rt, &ran, Status::Done, whole, b"");
     }
     Ok(())
 }
 
 #[test]
 fn each_read_may_fail(rt: HostRuntime) -> Result<(), Fail> {
-    for k in [0, 1, 179, 180, 181, 182, 270, 271, 272, 273, 274] {
+    for k in 0..276 {
         check_read(&rt, 1, k)?;
     }
-    for k in [0, 1, 24, 25, 26, 38, 39, 40] {
+    for k in 0..42 {
         check_read(&rt, 7, k)?;
     }
     for k in 0..3 {
@@ -276,14 +275,30 @@ fn each_read_may_fail(rt: HostRuntime) -> Result<(), Fail> {
 
 #[test]
 fn each_write_may_fail(rt: HostRuntime) -> Result<(), Fail> {
-    for k in [0, 1, 9, 10, 11, 40, 41, 42, 43, 44] {
-        check_write(&rt, 1, k)?;
+    let case = Case {
+        words: &["replay"],
+        input: DEPLOY,
+        whole: BLOCKED,
+    };
+    for k in 0..48 {
+        check_write(&rt, &case, 1, k, usize::from(k))?;
     }
-    for k in 0..8 {
-        check_write(&rt, 7, k)?;
+    // each line is written by itself, since the next has not come yet
+    for (k, written) in [
+        (0, 0),
+        (1, 7),
+        (2, 10),
+        (3, 17),
+        (4, 24),
+        (5, 31),
+        (6, 38),
+        (7, 40),
+    ] {
+        check_write(&rt, &case, 7, k, written)?;
     }
-    for k in 0..2 {
-        check_write(&rt, 4_096, k)?;
+    // both lines are written at once
+    for (k, written) in [(0, 0), (1, BLOCKED.len())] {
+        check_write(&rt, &case, 4_096, k, written)?;
     }
     Ok(())
 }

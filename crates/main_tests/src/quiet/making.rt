@@ -1,10 +1,7 @@
 //! `make`: the lines that it writes, the words that it takes, and each write failing in turn.
-ghost use Rattle.std.specs.Prelude.{◌≤◌};
 
-use super::{check, run, steady};
+use super::{Case, check, check_write, run, steady};
 use edge_main::{Status, lane_hashers};
-use std::process::Abort;
-use std::random::RandomSource;
 use std::test::Fail;
 
 const DEPLOYED: &str =
@@ -71,43 +68,16 @@ fn other_words_behind_make_are_no_command(rt: HostRuntime) -> Result<(), Fail> {
     Ok(())
 }
 
-/// The k-th write fails: what was written before stands.
-fn check_write<R: Abort + RandomSource + AllocGlobal>(
-    rt: &R,
-    piece: usize,
-    k: u16,
-) -> Result<(), Fail>
-    requires { 1 ≤ piece }
-{
-    let alloc = rt.alloc();
-    let mut streams = steady(alloc, piece);
-    streams.writes.push(u64::from(k))?;
-    let ran = run(
-        alloc,
-        lane_hashers(rt, alloc)?,
-        &["make", "7", "1"],
-        "",
-        streams,
-    )?;
-    let written = piece.saturating_mul(usize::from(k));
-    if written < MADE.len() {
-        check(
-            rt,
-            &ran,
-            Status::WriteFault,
-            &MADE.as_bytes()[..written],
-            b"edge: write fault\n",
-        );
-    } else {
-        check(rt, &ran, Status::Done, MADE.as_bytes(), b"");
-    }
-    Ok(())
-}
-
 #[test]
 fn each_write_of_made_lines_may_fail(rt: HostRuntime) -> Result<(), Fail> {
-    for k in 0..10 {
-        check_write(&rt, 64, k)?;
+    let case = Case {
+        words: &["make", "7", "1"],
+        input: "",
+        whole: MADE,
+    };
+    for k in 0..10u16 {
+        let written = usize::from(k).saturating_mul(64);
+        check_write(&rt, &case, 64, k, written)?;
     }
     Ok(())
 }
