@@ -49,7 +49,7 @@ const JUDGED: &str =
     "deploy v1\n1 v1 pass - /a -\n2 v1 block:403 fw/r2 /b -\n3 v1 pass - /c -\n4 v1 block:403 fw/r2 /d -\n5 v1 block:403 fw/r2 /e -\ndeploy refused /rulesets/0/rules/0/expression Syntax\ndeploy refused /rulesets/0/rules/0/expression Mismatch\ndeploy refused /rulesets/0/rules/0/expression UnknownList\ndeploy refused /rulesets/0/rules/0/expression ResponseField\n6 v1 block:403 fw/r2 /e -\n";
 
 /// A line of each cause, a line with two, and what is ignored.
-const CAUSES: &str = r#"{"raw":"GET"}
+const CAUSES: &str = r#"{"at":0,"ip":"::1","raw":"GET"}
 {"at":-1,"ip":"x","method":"GET","target":"/"}
 {"at":-1,"ip":"::1","method":"GET","target":"/"}
 []
@@ -58,7 +58,7 @@ const CAUSES: &str = r#"{"raw":"GET"}
 x"#;
 
 const REFUSED: &str =
-    "bad 1 Unsupported\nbad 2 BadAddress\nbad 3 BadMoment\nbad 4 Shape\n1 v0 pass - / -\ndeploy v1\nbad 7 NotJson\n";
+    "bad 1 BadHead\nbad 2 BadAddress\nbad 3 BadMoment\nbad 4 Shape\n1 v0 pass - / -\ndeploy v1\nbad 7 NotJson\n";
 
 /// What a run came to.
 #[derive(Debug, Drop)]

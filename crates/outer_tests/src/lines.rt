@@ -9,7 +9,7 @@ use trace_form::{BadCause, LineFault, LineItem, push_bad_line, push_deploy_line,
 /// A line, and what it is or why it is no item.
 type Row = (&'static str, &'static str);
 
-const ROWS: [Row; 38] = [
+const ROWS: [Row; 51] = [
     ("", "blank"),
     (" \t\r", "blank"),
     (r#"{"deploy":{"rulesets":[]}}"#, "deploy"),
@@ -22,7 +22,44 @@ const ROWS: [Row; 38] = [
     (r#"[]"#, "Shape"),
     (r#"null"#, "Shape"),
     (r#"{}"#, "Shape"),
-    (r#"{"raw":null}"#, "Unsupported"),
+    (r#"{"raw":null}"#, "Shape"),
+    (r#"{"at":0,"ip":"10.0.0.1","raw":null}"#, "Shape"),
+    (r#"{"at":-1,"ip":"x","raw":"","ssl":1}"#, "Shape"),
+    (r#"{"at":-1,"ip":"x","raw":""}"#, "BadAddress"),
+    (r#"{"at":-1,"ip":"::1","raw":""}"#, "BadMoment"),
+    (r#"{"at":0,"ip":"::1","raw":""}"#, "BadHead"),
+    (
+        r#"{"at":0,"ip":"::1","raw":"GET /admin HTTP/1.1\r\nHost: a.example\r\n\r\n"}"#,
+        "ask",
+    ),
+    (
+        r#"{"at":0,"ip":"::1","raw":"GET /admin HTTP/1.1\r\nHost: a.example\r\n\r"}"#,
+        "BadHead",
+    ),
+    (
+        r#"{"at":0,"ip":"::1","raw":"GET / HTTP/1.1\r\n\r\n","method":1,"target":"","version":0,"headers":0}"#,
+        "ask",
+    ),
+    (
+        r#"{"at":0,"ip":"::1","raw":"POST / HTTP/1.1\r\ncontent-length: 2\r\n\r\nab"}"#,
+        "ask",
+    ),
+    (
+        r#"{"at":0,"ip":"::1","raw":"POST / HTTP/1.1\r\ncontent-length: 2\r\n\r\na"}"#,
+        "BadHead",
+    ),
+    (
+        r#"{"at":0,"ip":"::1","raw":"POST / HTTP/1.1\r\ntransfer-encoding: chunked\r\n\r\n"}"#,
+        "BadHead",
+    ),
+    (
+        r#"{"at":0,"ip":"::1","raw":"","reply":{"status":200,"at":-1}}"#,
+        "BadMoment",
+    ),
+    (
+        r#"{"at":0,"ip":"::1","raw":"","reply":{"status":20}}"#,
+        "Shape",
+    ),
     (
         r#"{"at":0,"ip":"10.0.0.1","method":"GET","target":"/","headers":[]}"#,
         "ask",
@@ -172,11 +209,18 @@ fn a_request_is_read_whole(rt: HostRuntime) {
 }
 
 #[test]
+fn a_request_is_read_as_it_was_sent(rt: HostRuntime) {
+    let line = r#"{"at":0,"ip":"10.0.0.1","raw":"GET /admin HTTP/1.1\r\nhost: a.example\r\n\r\n"}"#;
+    let read = read_item(rt.alloc(), line.as_bytes());
+    assert!(rt; is_first(&read));
+}
+
+#[test]
 fn other_lines_are_answered(rt: HostRuntime) -> Result<(), Fail> {
     let alloc = rt.alloc();
     let mut out = TextBuilder::new(alloc);
     push_deploy_line(&mut out, 12)?;
-    push_bad_line(&mut out, 2, BadCause::Unsupported)?;
-    assert_eq!(rt; out.bytes(), b"deploy v12\nbad 2 Unsupported\n".as_slice());
+    push_bad_line(&mut out, 2, BadCause::BadHead)?;
+    assert_eq!(rt; out.bytes(), b"deploy v12\nbad 2 BadHead\n".as_slice());
     Ok(())
 }

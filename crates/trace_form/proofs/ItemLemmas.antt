@@ -26,8 +26,11 @@ use Rattle.trace_form.specs.declared.refusal.LineFault.TheVariants as fault
 use Rattle.trace_form.specs.Members.{text_of}
 use Rattle.trace_form.specs.Asked.{moment_of, IsPeer, member_or, ssl_of, minor_in, minor_of, method_of, target_of, headers_of, reply_of, ToldReply, Told, IsTold, IsToldWith, has_moments, IsRequest, told_reply, IsRecorded, IsNoRequest}
 use Rattle.trace_form.specs.Asked as asked
+use Rattle.trace_form.specs.Sent.{bytes_of, Sent, IsSent, IsSentWith, IsRead, IsUnread, IsSentRequest, IsSentRecorded, IsNoSent}
+use Rattle.trace_form.specs.Sent as sent
+use Rattle.trace_form.proofs.SentLemmas.{found-request_read, request_read-unique, dated-moments, sent-recorded, unread-none}
 use Rattle.trace_form.specs.Apart.{ItemsHaveNoCause}
-use Rattle.trace_form.specs.Item.{is_short, is_blank, IsJson, IsSolid, has_more, deployed_of, IsBlank, IsDeploy, IsAsking, IsAsk, IsNoItem, IsNoValueItem, SaysWhy}
+use Rattle.trace_form.specs.Item.{is_short, is_blank, IsJson, IsSolid, has_raw, deployed_of, IsBlank, IsDeploy, IsAsking, IsAsked, IsAsk, IsNoItem, IsNoValueItem, SaysWhy}
 use Rattle.trace_form.specs.Item as bad
 
 -- ---- a line is one value
@@ -39,9 +42,9 @@ deployed-of_line : (line : List ℕ) (value deployed : Data) → IsJson line val
 deployed-of_line line value deployed json d =
     subst (λ v. deployed_of v ≡ Some deployed) (json-unique line d.value value d.json json) d.deploy
 
-request-of_line : (line : List ℕ) (value : Data) (recorded : Recorded) → IsJson line value → IsAsk line recorded → IsAsking value × IsRecorded value recorded
+request-of_line : (line : List ℕ) (value : Data) (recorded : Recorded) → IsJson line value → IsAsk line recorded → IsAsking value × IsAsked value recorded
 request-of_line line value recorded json a =
-    subst (λ v. IsAsking v × IsRecorded v recorded) (json-unique line a.value value a.json json) (a.asking, a.ask)
+    subst (λ v. IsAsking v × IsAsked v recorded) (json-unique line a.value value a.json json) (a.asking, a.ask)
 
 -- ---- at most one kind, and one value
 
@@ -53,7 +56,7 @@ blank-not_ask line recorded blank a = both_ways (is_blank line) a.solid.1 blank.
 
 pub deploy-not_ask : (line : List ℕ) (deployed : Data) (recorded : Recorded) → IsDeploy line deployed → ¬ (IsAsk line recorded)
 deploy-not_ask line deployed recorded d a =
-    none-some deployed (sym ((request-of_line line d.value recorded d.json a).0).0 ∙ d.deploy)
+    none-some deployed (sym (request-of_line line d.value recorded d.json a).0 ∙ d.deploy)
 
 pub IsDeploy-unique : (line : List ℕ) (a b : Data) → IsDeploy line a → IsDeploy line b → a ≡ b
 IsDeploy-unique line a b is_a is_b = same_Some a b (sym is_a.deploy ∙ deployed-of_line line is_a.value b is_a.json is_b)
@@ -94,9 +97,31 @@ IsRecorded-unique value a b is_a is_b =
     let reply = told_reply-apart a.reply b.reply (same_Some (told_reply a.reply) (told_reply b.reply) (sym is_a.reply ∙ later ∙ is_b.reply)) in
     λ i. record { request = request i; reply = reply i }
 
+IsSentRequest-unique : (value : Data) (a b : Request) → IsSentRequest value a → IsSentRequest value b → a ≡ b
+IsSentRequest-unique value a b is_a is_b =
+    let at : b.at ≡ a.at = same_Some b.at a.at (same_Some (Some b.at) (Some a.at) (sym is_b.at ∙ is_a.at)) in
+    let from = IsPeer-unique value b.from a.from is_b.from is_a.from in
+    let ssl : b.ssl ≡ a.ssl = same_Some b.ssl a.ssl (sym is_b.ssl ∙ is_a.ssl) in
+    let bytes = same_Some is_b.bytes is_a.bytes (sym is_b.are_bytes ∙ is_a.are_bytes) in
+    request_read-unique is_a.bytes a.from a.ssl a.at a b is_a.read
+    (subst (λ (t : Type 0). t) (λ i. IsRead (bytes i) (from i) (ssl i) (at i) b) is_b.read)
+
+IsSentRecorded-unique : (value : Data) (a b : Recorded) → IsSentRecorded value a → IsSentRecorded value b → a ≡ b
+IsSentRecorded-unique value a b is_a is_b =
+    let request = IsSentRequest-unique value a.request b.request is_a.request is_b.request in
+    let later = ap (λ r. reply_of (Some r.at) value) request in
+    let reply = told_reply-apart a.reply b.reply (same_Some (told_reply a.reply) (told_reply b.reply) (sym is_a.reply ∙ later ∙ is_b.reply)) in
+    λ i. record { request = request i; reply = reply i }
+
+IsAsked-unique : (value : Data) (a b : Recorded) → IsAsked value a → IsAsked value b → a ≡ b
+IsAsked-unique value a b (bad.told members is_a) (bad.told members' is_b) = IsRecorded-unique value a b is_a is_b
+IsAsked-unique value a b (bad.told members is_a) (bad.sent raw is_b) = absurd (both_ways (has_raw value) members raw)
+IsAsked-unique value a b (bad.sent raw is_a) (bad.told members is_b) = absurd (both_ways (has_raw value) members raw)
+IsAsked-unique value a b (bad.sent raw is_a) (bad.sent raw' is_b) = IsSentRecorded-unique value a b is_a is_b
+
 pub IsAsk-unique : (line : List ℕ) (a b : Recorded) → IsAsk line a → IsAsk line b → a ≡ b
 IsAsk-unique line a b is_a is_b =
-    IsRecorded-unique is_a.value a b is_a.ask (request-of_line line is_a.value b is_a.json is_b).1
+    IsAsked-unique is_a.value a b is_a.ask (request-of_line line is_a.value b is_a.json is_b).1
 
 -- ---- what is no item is none of the kinds
 
@@ -119,7 +144,7 @@ recorded-told : (value : Data) (r : Recorded) → (is : IsRecorded value r) → 
 recorded-told value r is = (request-told value r.request is.request, is.reply)
 
 -- a reply that was recorded has a moment
-recorded-dated : (told : Told) (at : ℕ) (recorded : Option (Reply × ℕ)) → told.at ≡ Some at → has_moments told (told_reply recorded) ≡ true
+recorded-dated : (told : Told) (at : ℕ) (recorded : Option (Reply × ℕ)) → told.at ≡ Some at → has_moments told.at (told_reply recorded) ≡ true
 recorded-dated told at None is = rw is refl
 recorded-dated told at (Some r) is = rw is refl
 
@@ -131,7 +156,7 @@ told-reply : (value : Data) (a b : Told) (r s : Option ToldReply) → IsToldWith
 told-reply value a b r s p q =
     same_Some r s (sym p.1 ∙ ap (λ at. reply_of at value) (told-moment value a b p.0 q.0) ∙ q.1)
 
-told-has_moments : (value : Data) (a b : Told) (r s : Option ToldReply) → IsToldWith value a r → IsToldWith value b s → has_moments a r ≡ has_moments b s
+told-has_moments : (value : Data) (a b : Told) (r s : Option ToldReply) → IsToldWith value a r → IsToldWith value b s → has_moments a.at r ≡ has_moments b.at s
 told-has_moments value a b r s p q =
     rw (told-moment value a b p.0 q.0, told-reply value a b r s p q) refl
 
@@ -140,8 +165,55 @@ request-not_none value r why is (asked.shape none w) = none (told-by r.request i
 request-not_none value r why is (asked.address told reply is_told none w) = none r.request.from is.request.from
 request-not_none value r why is (asked.moment told reply is_told peer is_peer out w) =
     let this = told-by r.request is.request.from.0 in
-    both_ways (has_moments told reply) out
+    both_ways (has_moments told.at reply) out
     (told-has_moments value told this reply (told_reply r.reply) is_told (recorded-told value r is) ∙ recorded-dated this r.request.at r.reply refl)
+
+-- what a request tells that was sent
+abbrev sent-by : Request → List ℕ → List ℕ → Sent
+sent-by r ip bytes = record { at = Some r.at; ip = ip; ssl = r.ssl; bytes = bytes }
+
+request-sent : (value : Data) (r : Request) → (is : IsSentRequest value r) → IsSent value (sent-by r is.from.0 is.bytes)
+request-sent value r is = record { at = is.at; ip = is.from.1; ssl = is.ssl; bytes = is.are_bytes }
+
+recorded-sent : (value : Data) (r : Recorded) → (is : IsSentRecorded value r)
+    → IsSentWith value (sent-by r.request is.request.from.0 is.request.bytes) (told_reply r.reply)
+recorded-sent value r is = (request-sent value r.request is.request, is.reply)
+
+sent-moment : (value : Data) (a b : Sent) → IsSent value a → IsSent value b → a.at ≡ b.at
+sent-moment value a b p q = same_Some a.at b.at (sym p.at ∙ q.at)
+
+sent-has_moments : (value : Data) (a b : Sent) (r s : Option ToldReply) → IsSentWith value a r → IsSentWith value b s → has_moments a.at r ≡ has_moments b.at s
+sent-has_moments value a b r s p q =
+    let at = sent-moment value a b p.0 q.0 in
+    let reply : r ≡ s = same_Some r s (sym p.1 ∙ ap (λ at. reply_of at value) at ∙ q.1) in
+    λ i. has_moments (at i) (reply i)
+
+-- the bytes begin with the request that is told
+read-by : (value : Data) (r : Request) → (is : IsSentRequest value r) → (one : Sent) → IsSent value one → (peer : Addr) → IsPeer value peer
+    → (at : ℕ) → one.at ≡ Some at → IsRead one.bytes peer one.ssl at r
+read-by value r is one is_one peer is_peer at is_at =
+    let moment : r.at ≡ at = same_Some r.at at (same_Some (Some r.at) one.at (sym is.at ∙ is_one.at) ∙ is_at) in
+    let from = IsPeer-unique value r.from peer is.from is_peer in
+    let ssl : r.ssl ≡ one.ssl = same_Some r.ssl one.ssl (sym is.ssl ∙ is_one.ssl) in
+    let bytes = same_Some is.bytes one.bytes (sym is.are_bytes ∙ is_one.bytes) in
+    subst (λ (t : Type 0). t) (λ i. IsRead (bytes i) (from i) (ssl i) (moment i) r) is.read
+
+sent-not_none : (value : Data) (r : Recorded) (why : BadCause) → IsSentRecorded value r → ¬ (IsNoSent value why)
+sent-not_none value r why is (sent.shape none w) =
+    none (sent-by r.request is.request.from.0 is.request.bytes) (told_reply r.reply) (recorded-sent value r is)
+sent-not_none value r why is (sent.address one reply is_one none w) = none r.request.from is.request.from
+sent-not_none value r why is (sent.moment one reply is_one peer is_peer out w) =
+    let this = sent-by r.request is.request.from.0 is.request.bytes in
+    both_ways (has_moments one.at reply) out
+    (sent-has_moments value one this reply (told_reply r.reply) is_one (recorded-sent value r is) ∙ dated-moments r.request.at r.reply)
+sent-not_none value r why is (sent.head one reply is_one peer is_peer dated at is_at none w) =
+    none r.request (read-by value r.request is.request one is_one.0 peer is_peer at is_at)
+
+asked-not_none : (value : Data) (r : Recorded) (why : BadCause) → IsAsked value r → ¬ (IsNoValueItem value why)
+asked-not_none value r why (bad.told members is) (bad.no_request asking members' none) = request-not_none value r why is none
+asked-not_none value r why (bad.told members is) (bad.no_sent asking raw none) = both_ways (has_raw value) members raw
+asked-not_none value r why (bad.sent raw is) (bad.no_request asking members none) = both_ways (has_raw value) members raw
+asked-not_none value r why (bad.sent raw is) (bad.no_sent asking raw' none) = sent-not_none value r why is none
 
 pub blank-not_no_item : (line : List ℕ) (why : BadCause) → IsBlank line → ¬ (IsNoItem line why)
 blank-not_no_item line why blank (bad.long is_long w) = both_ways (is_short line) is_long blank.0
@@ -151,18 +223,16 @@ blank-not_no_item line why blank (bad.no_value_item solid value json none) = bot
 pub deploy-not_no_item : (line : List ℕ) (deployed : Data) (why : BadCause) → IsDeploy line deployed → ¬ (IsNoItem line why)
 deploy-not_no_item line deployed why d (bad.long is_long w) = both_ways (is_short line) is_long d.solid.0
 deploy-not_no_item line deployed why d (bad.no_json solid none w) = none d.value d.json
-deploy-not_no_item line deployed why d (bad.no_value_item solid value json (bad.more no_deploy more w)) =
-    none-some deployed (sym no_deploy ∙ deployed-of_line line value deployed json d)
-deploy-not_no_item line deployed why d (bad.no_value_item solid value json (bad.no_request asking none)) =
-    none-some deployed (sym asking.0 ∙ deployed-of_line line value deployed json d)
+deploy-not_no_item line deployed why d (bad.no_value_item solid value json (bad.no_request asking members none)) =
+    none-some deployed (sym asking ∙ deployed-of_line line value deployed json d)
+deploy-not_no_item line deployed why d (bad.no_value_item solid value json (bad.no_sent asking raw none)) =
+    none-some deployed (sym asking ∙ deployed-of_line line value deployed json d)
 
 pub ask-not_no_item : (line : List ℕ) (recorded : Recorded) (why : BadCause) → IsAsk line recorded → ¬ (IsNoItem line why)
 ask-not_no_item line recorded why a (bad.long is_long w) = both_ways (is_short line) is_long a.solid.0
 ask-not_no_item line recorded why a (bad.no_json solid none w) = none a.value a.json
-ask-not_no_item line recorded why a (bad.no_value_item solid value json (bad.more no_deploy more w)) =
-    both_ways (has_more value) (((request-of_line line value recorded json a).0).1) more
-ask-not_no_item line recorded why a (bad.no_value_item solid value json (bad.no_request asking none)) =
-    request-not_none value recorded why (request-of_line line value recorded json a).1 none
+ask-not_no_item line recorded why a (bad.no_value_item solid value json none) =
+    asked-not_none value recorded why (request-of_line line value recorded json a).1 none
 
 pub items_have_no_cause : ItemsHaveNoCause
 items_have_no_cause line (lineitem.Deploy deployed) why is = deploy-not_no_item line (view deployed) why is
@@ -194,11 +264,37 @@ IsNoRequest-unique value a b (asked.moment told reply is peer is_peer out p) (as
 IsNoRequest-unique value a b (asked.moment told reply is peer is_peer out p) (asked.address told' reply' is' none q) = absurd (none peer is_peer)
 IsNoRequest-unique value a b (asked.moment told reply is peer is_peer out p) (asked.moment told' reply' is' peer' is_peer' out' q) = same_cause a b cause.BadMoment p q
 
+-- bytes that begin with no request, of an object whose moments are in range
+unread-dated : (value : Data) (a b : Sent) (r s : Option ToldReply) → IsSentWith value a r → IsSentWith value b s → has_moments a.at r ≡ false
+    → has_moments b.at s ≡ true → ⊥
+unread-dated value a b r s p q out dated = both_ways (has_moments a.at r) out (sent-has_moments value a b r s p q ∙ dated)
+
+IsNoSent-unique : (value : Data) (a b : BadCause) → IsNoSent value a → IsNoSent value b → a ≡ b
+IsNoSent-unique value a b (sent.shape none p) (sent.shape none' q) = same_cause a b cause.Shape p q
+IsNoSent-unique value a b (sent.shape none p) (sent.address one reply is none' q) = absurd (none one reply is)
+IsNoSent-unique value a b (sent.shape none p) (sent.moment one reply is peer is_peer out q) = absurd (none one reply is)
+IsNoSent-unique value a b (sent.shape none p) (sent.head one reply is peer is_peer dated at is_at unread q) = absurd (none one reply is)
+IsNoSent-unique value a b (sent.address one reply is none p) (sent.shape none' q) = absurd (none' one reply is)
+IsNoSent-unique value a b (sent.address one reply is none p) (sent.address one' reply' is' none' q) = same_cause a b cause.BadAddress p q
+IsNoSent-unique value a b (sent.address one reply is none p) (sent.moment one' reply' is' peer is_peer out q) = absurd (none peer is_peer)
+IsNoSent-unique value a b (sent.address one reply is none p) (sent.head one' reply' is' peer is_peer dated at is_at unread q) = absurd (none peer is_peer)
+IsNoSent-unique value a b (sent.moment one reply is peer is_peer out p) (sent.shape none q) = absurd (none one reply is)
+IsNoSent-unique value a b (sent.moment one reply is peer is_peer out p) (sent.address one' reply' is' none q) = absurd (none peer is_peer)
+IsNoSent-unique value a b (sent.moment one reply is peer is_peer out p) (sent.moment one' reply' is' peer' is_peer' out' q) = same_cause a b cause.BadMoment p q
+IsNoSent-unique value a b (sent.moment one reply is peer is_peer out p) (sent.head one' reply' is' peer' is_peer' dated at is_at unread q) =
+    absurd (unread-dated value one one' reply reply' is is' out dated)
+IsNoSent-unique value a b (sent.head one reply is peer is_peer dated at is_at unread p) (sent.shape none q) = absurd (none one reply is)
+IsNoSent-unique value a b (sent.head one reply is peer is_peer dated at is_at unread p) (sent.address one' reply' is' none q) = absurd (none peer is_peer)
+IsNoSent-unique value a b (sent.head one reply is peer is_peer dated at is_at unread p) (sent.moment one' reply' is' peer' is_peer' out q) =
+    absurd (unread-dated value one' one reply' reply is' is out dated)
+IsNoSent-unique value a b (sent.head one reply is peer is_peer dated at is_at unread p) (sent.head one' reply' is' peer' is_peer' dated' at' is_at' unread' q) =
+    same_cause a b cause.BadHead p q
+
 IsNoValueItem-unique : (value : Data) (a b : BadCause) → IsNoValueItem value a → IsNoValueItem value b → a ≡ b
-IsNoValueItem-unique value a b (bad.more d more p) (bad.more d' more' q) = same_cause a b cause.Unsupported p q
-IsNoValueItem-unique value a b (bad.more d more p) (bad.no_request asking none) = absurd (both_ways (has_more value) asking.1 more)
-IsNoValueItem-unique value a b (bad.no_request asking none) (bad.more d more q) = absurd (both_ways (has_more value) asking.1 more)
-IsNoValueItem-unique value a b (bad.no_request asking none) (bad.no_request asking' none') = IsNoRequest-unique value a b none none'
+IsNoValueItem-unique value a b (bad.no_request asking members none) (bad.no_request asking' members' none') = IsNoRequest-unique value a b none none'
+IsNoValueItem-unique value a b (bad.no_request asking members none) (bad.no_sent asking' raw none') = absurd (both_ways (has_raw value) members raw)
+IsNoValueItem-unique value a b (bad.no_sent asking raw none) (bad.no_request asking' members none') = absurd (both_ways (has_raw value) members raw)
+IsNoValueItem-unique value a b (bad.no_sent asking raw none) (bad.no_sent asking' raw' none') = IsNoSent-unique value a b none none'
 
 pub IsNoItem-unique : (line : List ℕ) (a b : BadCause) → IsNoItem line a → IsNoItem line b → a ≡ b
 IsNoItem-unique line a b (bad.long is_long p) (bad.long is_long' q) = same_cause a b cause.LongLine p q
@@ -289,6 +385,27 @@ found-both value = of_told (found-told value) where
   of_told (inl (told, is_told)) = of_reply told is_told (reply_of told.at value) refl
   of_told (inr none) = inr (λ both is. none both.0 is.0)
 
+-- what an object tells whose head and body stand as they were sent
+found-sent : (value : Data) → Found (λ (both : Sent × Option ToldReply). IsSentWith value both.0 both.1)
+found-sent value = of_at (moment_of value) refl (text_of (codes "ip") value) refl (ssl_of value) refl (bytes_of value) refl where
+  of_reply : (one : Sent) → IsSent value one → (reply : Option (Option ToldReply)) → reply_of one.at value ≡ reply
+      → Found (λ (both : Sent × Option ToldReply). IsSentWith value both.0 both.1)
+  of_reply one is_sent None is_none =
+      inr (λ both is. none-some both.1 (sym is_none ∙ ap (λ at. reply_of at value) (sent-moment value one both.0 is_sent is.0) ∙ is.1))
+  of_reply one is_sent (Some reply) is_reply = inl ((one, reply), (is_sent, is_reply))
+
+  of_at : (at : Option (Option ℕ)) → moment_of value ≡ at → (ip : Option (List ℕ)) → text_of (codes "ip") value ≡ ip
+      → (ssl : Option Bool) → ssl_of value ≡ ssl → (bytes : Option (List ℕ)) → bytes_of value ≡ bytes
+      → Found (λ (both : Sent × Option ToldReply). IsSentWith value both.0 both.1)
+  of_at None is_at ip is_ip ssl is_ssl bytes is_bytes = inr (λ both is. none-some both.0.at (sym is_at ∙ is.0.at))
+  of_at (Some at) is_at None is_ip ssl is_ssl bytes is_bytes = inr (λ both is. none-some both.0.ip (sym is_ip ∙ is.0.ip))
+  of_at (Some at) is_at (Some ip) is_ip None is_ssl bytes is_bytes = inr (λ both is. none-some both.0.ssl (sym is_ssl ∙ is.0.ssl))
+  of_at (Some at) is_at (Some ip) is_ip (Some ssl) is_ssl None is_bytes = inr (λ both is. none-some both.0.bytes (sym is_bytes ∙ is.0.bytes))
+  of_at (Some at) is_at (Some ip) is_ip (Some ssl) is_ssl (Some bytes) is_bytes =
+      let one : Sent = record { at = at; ip = ip; ssl = ssl; bytes = bytes } in
+      let is_one : IsSent value one = record { at = is_at; ip = is_ip; ssl = is_ssl; bytes = is_bytes } in
+      of_reply one is_one (reply_of at value) refl
+
 -- what a line is
 pub data Kind (line : List ℕ) : Type 0 where
   blank : IsBlank line → Kind line
@@ -299,7 +416,7 @@ pub data Kind (line : List ℕ) : Type 0 where
 -- a reply with its moment, or that this is out of range
 data Dated (told : Told) (reply : Option ToldReply) : Type 0 where
   dated : (recorded : Option (Reply × ℕ)) → reply ≡ told_reply recorded → Dated told reply
-  out : has_moments told reply ≡ false → Dated told reply
+  out : has_moments told.at reply ≡ false → Dated told reply
 
 found-dated : (told : Told) (at : ℕ) → told.at ≡ Some at → (reply : Option ToldReply) → Dated told reply
 found-dated told at is_at None = dated None refl
@@ -312,12 +429,13 @@ record Asks (line : List ℕ) (told : Told) (reply : Option ToldReply) : Type 0 
   solid : IsSolid line
   json : IsJson line value
   asking : IsAsking value
+  no_raw : has_raw value ≡ false
   is_told : IsToldWith value told reply
 
 kind-out : (line : List ℕ) (told : Told) (reply : Option ToldReply) → (a : Asks line told reply) → (peer : Addr) → IsPeer a.value peer
-    → has_moments told reply ≡ false → Kind line
+    → has_moments told.at reply ≡ false → Kind line
 kind-out line told reply a peer is_peer outside =
-    no_item cause.BadMoment (bad.no_value_item a.solid a.value a.json (bad.no_request a.asking (asked.moment told reply a.is_told peer is_peer outside refl)))
+    no_item cause.BadMoment (bad.no_value_item a.solid a.value a.json (bad.no_request a.asking a.no_raw (asked.moment told reply a.is_told peer is_peer outside refl)))
 
 kind-of_dated : (line : List ℕ) (told : Told) (reply : Option ToldReply) → (a : Asks line told reply) → (peer : Addr) → IsPeer a.value peer
     → (at : ℕ) → told.at ≡ Some at → Dated told reply → Kind line
@@ -329,7 +447,7 @@ kind-of_dated line told reply a peer is_peer at is_at (dated recorded is_recorde
     let is_reply = ap (λ m. reply_of m a.value) (sym is_at) ∙ a.is_told.1 ∙ ap Some is_recorded in
     let whole : Recorded = record { request = request; reply = recorded } in
     let is_whole : IsRecorded a.value whole = record { request = is_request; reply = is_reply } in
-    ask whole (record { solid = a.solid; value = a.value; json = a.json; asking = a.asking; ask = is_whole })
+    ask whole (record { solid = a.solid; value = a.value; json = a.json; asking = a.asking; ask = bad.told a.no_raw is_whole })
 
 kind-of_moment : (line : List ℕ) (told : Told) (reply : Option ToldReply) → (a : Asks line told reply) → (peer : Addr) → IsPeer a.value peer
     → (at : Option ℕ) → told.at ≡ at → Kind line
@@ -340,26 +458,79 @@ kind-of_moment line told reply a peer is_peer (Some at) is_at =
 kind-of_peer : (line : List ℕ) (told : Told) (reply : Option ToldReply) → (a : Asks line told reply) → Found (IsPeer a.value) → Kind line
 kind-of_peer line told reply a (inl (peer, is_peer)) = kind-of_moment line told reply a peer is_peer told.at refl
 kind-of_peer line told reply a (inr none) =
-    no_item cause.BadAddress (bad.no_value_item a.solid a.value a.json (bad.no_request a.asking (asked.address told reply a.is_told none refl)))
+    no_item cause.BadAddress (bad.no_value_item a.solid a.value a.json (bad.no_request a.asking a.no_raw (asked.address told reply a.is_told none refl)))
 
-kind-of_told : (line : List ℕ) (value : Data) → IsSolid line → IsJson line value → IsAsking value
+kind-of_told : (line : List ℕ) (value : Data) → IsSolid line → IsJson line value → IsAsking value → has_raw value ≡ false
     → Found (λ (both : Told × Option ToldReply). IsToldWith value both.0 both.1) → Kind line
-kind-of_told line value solid json asking (inl (both, is_told)) =
-    let a : Asks line both.0 both.1 = record { value = value; solid = solid; json = json; asking = asking; is_told = is_told } in
+kind-of_told line value solid json asking no_raw (inl (both, is_told)) =
+    let a : Asks line both.0 both.1 = record { value = value; solid = solid; json = json; asking = asking; no_raw = no_raw; is_told = is_told } in
     kind-of_peer line both.0 both.1 a (found-peer value)
-kind-of_told line value solid json asking (inr none) =
-    no_item cause.Shape (bad.no_value_item solid value json (bad.no_request asking (asked.shape (λ told reply is. none (told, reply) is) refl)))
+kind-of_told line value solid json asking no_raw (inr none) =
+    no_item cause.Shape (bad.no_value_item solid value json (bad.no_request asking no_raw (asked.shape (λ told reply is. none (told, reply) is) refl)))
+
+-- ---- an object whose head and body stand as they were sent
+
+record Sends (line : List ℕ) (one : Sent) (reply : Option ToldReply) : Type 0 where
+  value : Data
+  solid : IsSolid line
+  json : IsJson line value
+  asking : IsAsking value
+  raw : has_raw value ≡ true
+  is_sent : IsSentWith value one reply
+
+not-sent : (line : List ℕ) (one : Sent) (reply : Option ToldReply) → (a : Sends line one reply) → (why : BadCause) → IsNoSent a.value why → Kind line
+not-sent line one reply a why none = no_item why (bad.no_value_item a.solid a.value a.json (bad.no_sent a.asking a.raw none))
+
+sent-out : (line : List ℕ) (one : Sent) (reply : Option ToldReply) → (a : Sends line one reply) → (peer : Addr) → IsPeer a.value peer
+    → has_moments one.at reply ≡ false → Kind line
+sent-out line one reply a peer is_peer outside = not-sent line one reply a cause.BadMoment (sent.moment one reply a.is_sent peer is_peer outside refl)
+
+sent-of_read : (line : List ℕ) (one : Sent) (reply : Option ToldReply) → (a : Sends line one reply) → (peer : Addr) → IsPeer a.value peer
+    → (at : ℕ) → one.at ≡ Some at → (recorded : Option (Reply × ℕ)) → reply ≡ told_reply recorded
+    → Found (λ (request : Request). IsRead one.bytes peer one.ssl at request) → Kind line
+sent-of_read line one reply a peer is_peer at is_at recorded is_recorded (inr none) =
+    not-sent line one reply a cause.BadHead (unread-none a.value one reply a.is_sent peer is_peer at is_at recorded is_recorded none)
+sent-of_read line one reply a peer is_peer at is_at recorded is_recorded (inl (request, read)) =
+    let whole : Recorded = record { request = request; reply = recorded } in
+    let is_whole : IsSentRecorded a.value whole = sent-recorded a.value one reply a.is_sent peer is_peer at is_at recorded is_recorded request read in
+    ask whole (record { solid = a.solid; value = a.value; json = a.json; asking = a.asking; ask = bad.sent a.raw is_whole })
+
+sent-of_dated : (line : List ℕ) (one : Sent) (reply : Option ToldReply) → (a : Sends line one reply) → (peer : Addr) → IsPeer a.value peer
+    → (at : ℕ) → one.at ≡ Some at → (r : Option ToldReply) → reply ≡ r → Kind line
+sent-of_dated line one reply a peer is_peer at is_at None is_r =
+    sent-of_read line one reply a peer is_peer at is_at None is_r (found-request_read one.bytes peer one.ssl at)
+sent-of_dated line one reply a peer is_peer at is_at (Some (r, None)) is_r =
+    sent-out line one reply a peer is_peer (λ i. has_moments (is_at i) (is_r i))
+sent-of_dated line one reply a peer is_peer at is_at (Some (r, Some moment)) is_r =
+    sent-of_read line one reply a peer is_peer at is_at (Some (r, moment)) is_r (found-request_read one.bytes peer one.ssl at)
+
+sent-of_moment : (line : List ℕ) (one : Sent) (reply : Option ToldReply) → (a : Sends line one reply) → (peer : Addr) → IsPeer a.value peer
+    → (at : Option ℕ) → one.at ≡ at → Kind line
+sent-of_moment line one reply a peer is_peer None is_none =
+    sent-out line one reply a peer is_peer (ap (λ m. has_moments m reply) is_none)
+sent-of_moment line one reply a peer is_peer (Some at) is_at = sent-of_dated line one reply a peer is_peer at is_at reply refl
+
+sent-of_peer : (line : List ℕ) (one : Sent) (reply : Option ToldReply) → (a : Sends line one reply) → Found (IsPeer a.value) → Kind line
+sent-of_peer line one reply a (inl (peer, is_peer)) = sent-of_moment line one reply a peer is_peer one.at refl
+sent-of_peer line one reply a (inr none) = not-sent line one reply a cause.BadAddress (sent.address one reply a.is_sent none refl)
+
+kind-of_sent : (line : List ℕ) (value : Data) → IsSolid line → IsJson line value → IsAsking value → has_raw value ≡ true
+    → Found (λ (both : Sent × Option ToldReply). IsSentWith value both.0 both.1) → Kind line
+kind-of_sent line value solid json asking raw (inl (both, is_sent)) =
+    let a : Sends line both.0 both.1 = record { value = value; solid = solid; json = json; asking = asking; raw = raw; is_sent = is_sent } in
+    sent-of_peer line both.0 both.1 a (found-peer value)
+kind-of_sent line value solid json asking raw (inr none) =
+    no_item cause.Shape (bad.no_value_item solid value json (bad.no_sent asking raw (sent.shape (λ one reply is. none (one, reply) is) refl)))
 
 kind-of_value : (line : List ℕ) (value : Data) → IsSolid line → IsJson line value → (deployed : Option Data) → deployed_of value ≡ deployed
-    → (more : Bool) → has_more value ≡ more → Kind line
-kind-of_value line value solid json (Some deployed) is_deploy more is_more =
+    → (raw : Bool) → has_raw value ≡ raw → Kind line
+kind-of_value line value solid json (Some deployed) is_deploy raw is_raw =
     deploy deployed (record { solid = solid; value = value; json = json; deploy = is_deploy })
-kind-of_value line value solid json None is_none true is_more =
-    no_item cause.Unsupported (bad.no_value_item solid value json (bad.more is_none is_more refl))
-kind-of_value line value solid json None is_none false is_more = kind-of_told line value solid json (is_none, is_more) (found-both value)
+kind-of_value line value solid json None is_none true is_raw = kind-of_sent line value solid json is_none is_raw (found-sent value)
+kind-of_value line value solid json None is_none false is_raw = kind-of_told line value solid json is_none is_raw (found-both value)
 
 kind-of_json : (line : List ℕ) → IsSolid line → Found (IsJson line) → Kind line
-kind-of_json line solid (inl (value, json)) = kind-of_value line value solid json (deployed_of value) refl (has_more value) refl
+kind-of_json line solid (inl (value, json)) = kind-of_value line value solid json (deployed_of value) refl (has_raw value) refl
 kind-of_json line solid (inr none) = no_item cause.NotJson (bad.no_json solid none refl)
 
 kind-of_tests : (line : List ℕ) (short blank : Bool) → is_short line ≡ short → is_blank line ≡ blank → Kind line

@@ -13,6 +13,7 @@ use Rattle.serde_json.proofs.Views.{Entry, member_later}
 use Rattle.std.specs.Prelude.{option_and_then}
 use Rattle.trace_form.specs.Asked.{moment_in, member_or, minor_in, is_method, is_target, headers_in, Told, IsTold}
 use Rattle.std.specs.Bool.{then_some}
+use Rattle.trace_form.specs.Sent.{Sent, IsSent}
 use Rattle.trace_form.specs.Found.{HasOthers}
 
 pub removed-others : (name other : List ℕ) (es : List Entry) → other ≢ name
@@ -40,6 +41,15 @@ told-beside value rest told others is = record {
   target = sym (ap (λ found. option_and_then (λ text. then_some (is_target text) text) (option_and_then as_str found)) (others (codes "target") (not-reply (codes "target") refl))) ∙ is.target;
   minor = sym (ap (λ found. member_or 1 (λ version. option_and_then minor_in (as_str version)) found) (others (codes "version") (not-reply (codes "version") refl))) ∙ is.minor;
   headers = sym (ap (λ found. member_or [] headers_in found) (others (codes "headers") (not-reply (codes "headers") refl))) ∙ is.headers;
+}
+
+-- and so is one that stands as it was sent
+pub sent-beside : (value rest : Data) (sent : Sent) → HasOthers (codes "reply") value rest → IsSent rest sent → IsSent value sent
+sent-beside value rest sent others is = record {
+  at = sym (ap (λ found. option_and_then moment_in (option_and_then as_number found)) (others (codes "at") (not-reply (codes "at") refl))) ∙ is.at;
+  ip = sym (ap (λ found. option_and_then as_str found) (others (codes "ip") (not-reply (codes "ip") refl))) ∙ is.ip;
+  ssl = sym (ap (λ found. member_or false as_bool found) (others (codes "ssl") (not-reply (codes "ssl") refl))) ∙ is.ssl;
+  bytes = sym (ap (λ found. option_and_then as_str found) (others (codes "raw") (not-reply (codes "raw") refl))) ∙ is.bytes;
 }
 
 pub others-back : (name : List ℕ) (value rest : Data) → HasOthers name value rest → HasOthers name rest value

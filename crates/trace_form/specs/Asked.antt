@@ -172,8 +172,8 @@ abbrev pub IsShapeless : Data → Type 0
 IsShapeless value = (told : Told) (reply : Option ToldReply) → ¬ (IsToldWith value told reply)
 
 -- the moments of the request and of its reply are in range
-abbrev pub has_moments : Told → Option ToldReply → Bool
-has_moments told reply = is_some told.at && option_map_or (λ r. is_some r.1) reply true
+abbrev pub has_moments : Option ℕ → Option ToldReply → Bool
+has_moments at reply = is_some at && option_map_or (λ r. is_some r.1) reply true
 
 -- the value tells this request
 pub record IsRequest (value : Data) (request : Request) : Type 0 where
@@ -201,4 +201,4 @@ pub data IsNoRequest (value : Data) (why : BadCause) : Type 0 where
   address : (told : Told) (reply : Option ToldReply) → IsToldWith value told reply → ((peer : Addr) → ¬ (IsPeer value peer))
       → why ≡ cause.BadAddress → IsNoRequest value why
   moment : (told : Told) (reply : Option ToldReply) → IsToldWith value told reply → (peer : Addr) → IsPeer value peer
-      → has_moments told reply ≡ false → why ≡ cause.BadMoment → IsNoRequest value why
+      → has_moments told.at reply ≡ false → why ≡ cause.BadMoment → IsNoRequest value why

@@ -13,6 +13,7 @@ use Rattle.trace_form.specs.declared.refusal.BadCause.TheVariants as cause
 use Rattle.trace_form.specs.declared.refusal.LineFault.{LineFault}
 use Rattle.trace_form.specs.declared.refusal.LineFault.TheVariants as fault
 use Rattle.trace_form.specs.Asked.{IsRecorded, IsNoRequest}
+use Rattle.trace_form.specs.Sent.{IsSentRecorded, IsNoSent}
 use Rattle.edge_base.specs.Bytes.{tab, carriage_return, space}
 
 -- at most 1,048,576 bytes
@@ -43,13 +44,18 @@ IsSolid line = (is_short line ≡ true) × (is_blank line ≡ false)
 abbrev pub deployed_of : Data → Option Data
 deployed_of value = get (codes "deploy") value
 
--- a member of which no request is taken yet is there: the head as it was sent
-abbrev pub has_more : Data → Bool
-has_more value = is_some (get (codes "raw") value)
+-- the value has its head and its body as they were sent, and then no other member of the head is looked at
+abbrev pub has_raw : Data → Bool
+has_raw value = is_some (get (codes "raw") value)
 
--- the value is judged as a request: it is no deployment, and has no more than is taken
+-- the value is judged as a request: it is no deployment
 abbrev pub IsAsking : Data → Type 0
-IsAsking value = (deployed_of value ≡ None) × (has_more value ≡ false)
+IsAsking value = deployed_of value ≡ None
+
+-- the value is this request with this reply or none, told by its members or as it was sent
+pub data IsAsked (value : Data) (recorded : Recorded) : Type 0 where
+  told : has_raw value ≡ false → IsRecorded value recorded → IsAsked value recorded
+  sent : has_raw value ≡ true → IsSentRecorded value recorded → IsAsked value recorded
 
 -- the line isn't blank, and is a deployment of this value
 pub record IsDeploy (line : List ℕ) (deployed : Data) : Type 0 where
@@ -64,12 +70,12 @@ pub record IsAsk (line : List ℕ) (recorded : Recorded) : Type 0 where
   pub value : Data
   pub json : IsJson line value
   pub asking : IsAsking value
-  pub ask : IsRecorded value recorded
+  pub ask : IsAsked value recorded
 
--- why a value is no item: it has what isn't taken yet, or is judged as a request and tells none
+-- why a value is no item: it is judged as a request, and tells none by its members or as it was sent
 pub data IsNoValueItem (value : Data) (why : BadCause) : Type 0 where
-  more : deployed_of value ≡ None → has_more value ≡ true → why ≡ cause.Unsupported → IsNoValueItem value why
-  no_request : IsAsking value → IsNoRequest value why → IsNoValueItem value why
+  no_request : IsAsking value → has_raw value ≡ false → IsNoRequest value why → IsNoValueItem value why
+  no_sent : IsAsking value → has_raw value ≡ true → IsNoSent value why → IsNoValueItem value why
 
 -- why a line is no item, the first cause that applies: it is too long, it is no JSON, or its value is no item
 pub data IsNoItem (line : List ℕ) (why : BadCause) : Type 0 where
@@ -80,7 +86,7 @@ pub data IsNoItem (line : List ℕ) (why : BadCause) : Type 0 where
 -- the value is what this item holds
 abbrev pub IsValueItem : Data → LineItem → Type 0
 IsValueItem value (lineitem.Deploy deployed) = deployed_of value ≡ Some (view deployed)
-IsValueItem value (lineitem.Ask recorded) = IsAsking value × IsRecorded value recorded
+IsValueItem value (lineitem.Ask recorded) = IsAsking value × IsAsked value recorded
 IsValueItem value lineitem.Blank = ⊥
 
 -- the line is this item

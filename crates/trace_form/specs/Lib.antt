@@ -1,5 +1,6 @@
 pub mod Members
 pub mod Asked
+pub mod Sent
 pub mod Item
 pub mod Line
 pub mod Found

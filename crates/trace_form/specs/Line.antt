@@ -124,7 +124,7 @@ cause_name cause.NotJson = codes "NotJson"
 cause_name cause.Shape = codes "Shape"
 cause_name cause.BadAddress = codes "BadAddress"
 cause_name cause.BadMoment = codes "BadMoment"
-cause_name cause.Unsupported = codes "Unsupported"
+cause_name cause.BadHead = codes "BadHead"
 
 -- the line of an input line that is no item
 abbrev pub bad_line : ℕ → BadCause → List ℕ

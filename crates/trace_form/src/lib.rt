@@ -13,6 +13,7 @@ mod reader;
 mod refusal;
 mod reply;
 mod request;
+mod sent;
 mod steps;
 mod told;
 

@@ -2,12 +2,13 @@ ghost use Rattle.std.specs.Prelude.{◌≡◌, ◌↔◌, true, Some, option_map
 ghost use Rattle.serde_json.specs.Data.{Data};
 ghost use Rattle.serde_json.specs.Errors.{IsMemory};
 ghost use Rattle.serde_json.specs.View.{view};
-ghost use Rattle.trace_form.specs.Item.{is_short, is_blank, IsJson, IsNoJson, has_more, deployed_of, IsItem, IsNoItem, IsValueItem, IsNoValueItem, SaysWhy};
+ghost use Rattle.trace_form.specs.Item.{is_short, is_blank, IsJson, IsNoJson, has_raw, deployed_of, IsAsking, IsAsked, IsItem, IsNoItem, IsValueItem, IsNoValueItem, SaysWhy};
 
-use crate::item::LineItem;
+use crate::item::{LineItem, Recorded};
 use crate::members::{has_member, member_of};
 use crate::refusal::{BadCause, LineFault};
 use crate::request::request_of;
+use crate::sent::sent_request_of;
 use serde_json::{Category, Error, Value};
 use std::alloc::Global;
 
@@ -51,9 +52,9 @@ fn value_of(alloc: Global, line: &[u8]) -> Result<Value, LineFault>
     }
 }
 
-/// Whether a member is there of which no request is taken yet.
-fn has_more(value: &Value) -> bool
-    ensures { result ≡ has_more (view value.now) }
+/// Whether the head and the body stand as they were sent.
+fn has_raw(value: &Value) -> bool
+    ensures { result ≡ has_raw (view value.now) }
 {
     has_member(value, "raw")
 }
@@ -69,6 +70,19 @@ fn deployed_of(value: Value) -> Value
     }
 }
 
+/// The request that a value is which is judged as one.
+fn asked_of(alloc: Global, value: Value) -> Result<Recorded, LineFault>
+    requires { IsAsking (view value) }
+    ensures ok { IfOk result (IsAsked (view value)) }
+    ensures bad { IfErr result (SaysWhy (IsNoValueItem (view value))) }
+{
+    if has_raw(&value) {
+        sent_request_of(alloc, value)
+    } else {
+        request_of(alloc, value)
+    }
+}
+
 /// The item that a value is.
 fn item_of(alloc: Global, value: Value) -> Result<LineItem, LineFault>
     ensures ok { IfOk result (IsValueItem (view value)) }
@@ -77,13 +91,8 @@ fn item_of(alloc: Global, value: Value) -> Result<LineItem, LineFault>
     if has_member(&value, "deploy") {
         return Ok(LineItem::Deploy(deployed_of(value)));
     }
-    if has_more(&value) {
-        return Err(LineFault::Bad(BadCause::Unsupported));
-    }
-    match request_of(alloc, value) {
-        Ok(recorded) => Ok(LineItem::Ask(recorded)),
-        Err(fault) => Err(fault),
-    }
+    let asked = asked_of(alloc, value)?;
+    Ok(LineItem::Ask(asked))
 }
 
 /// What a line of a trace is, or the first cause why it is no item.

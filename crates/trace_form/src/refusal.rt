@@ -4,8 +4,7 @@ ghost use Rattle.trace_form.specs.Line.{cause_name};
 use edge_base::Memory;
 use std::alloc::AllocError;
 
-/// Why a line is no item. Of several causes the first that stands here is told, but `Unsupported` stands in front of
-/// `Shape`.
+/// Why a line is no item. Of several causes the first that stands here is told.
 #[derive(Clone, Copy, Debug, PartialEq, Eq)]
 pub enum BadCause {
     /// It has more than 1,048,576 bytes.
@@ -16,8 +15,8 @@ pub enum BadCause {
     BadAddress,
     /// The moment is below 0 or above 2^53.
     BadMoment,
-    /// It has a form that isn't taken yet.
-    Unsupported,
+    /// What was sent doesn't begin with a whole request.
+    BadHead,
 }
 
 /// Why a line gave no item.
@@ -38,7 +37,7 @@ impl BadCause {
             BadCause::Shape => b"Shape",
             BadCause::BadAddress => b"BadAddress",
             BadCause::BadMoment => b"BadMoment",
-            BadCause::Unsupported => b"Unsupported",
+            BadCause::BadHead => b"BadHead",
         }
     }
 }

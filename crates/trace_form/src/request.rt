@@ -53,14 +53,14 @@ pub(crate) fn moment_in(number: &Number) -> Option<Option<Moment>>
 }
 
 /// When the request came.
-fn moment_of(value: &Value) -> Option<Option<Moment>>
+pub(crate) fn moment_of(value: &Value) -> Option<Option<Moment>>
     ensures { result ≡ moment_of (view value.now) }
 {
     moment_in(value.get("at")?.as_number()?)
 }
 
 /// Whether the request came over TLS.
-fn ssl_of(value: &Value) -> Option<bool>
+pub(crate) fn ssl_of(value: &Value) -> Option<bool>
     ensures { result ≡ ssl_of (view value.now) }
 {
     match value.get("ssl") {

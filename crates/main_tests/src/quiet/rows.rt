@@ -166,6 +166,30 @@ const TWO_ENTRIES: &str =
 {"at":1,"ip":"10.0.0.1","method":"GET","target":"/admin","headers":[["host","a.example"]]}
 "#;
 
+const SENT: &str =
+    r#"{"deploy":{"rulesets":[{"id":"fw","kind":"zone","phase":"http_request_firewall_custom","rules":[{"id":"r1","expression":"http.request.uri.path eq \"/admin\"","action":"block"}]}]}}
+{"at":0,"ip":"10.0.0.1","raw":"GET /admin HTTP/1.1\r\nHost: a.example\r\n\r\n"}
+"#;
+
+const SENT_CUT: &str =
+    r#"{"deploy":{"rulesets":[{"id":"fw","kind":"zone","phase":"http_request_firewall_custom","rules":[{"id":"r1","expression":"http.request.uri.path eq \"/admin\"","action":"block"}]}]}}
+{"at":0,"ip":"10.0.0.1","raw":"GET /admin HTTP/1.1\r\nHost: a.example\r\n\r"}
+"#;
+
+/// What was sent, beside the members of the line: TLS, those that are passed over, a reply, a body, and each cause.
+const SENT_BESIDE: &str =
+    r#"{"deploy":{"rulesets":[{"id":"fw","kind":"zone","phase":"http_request_firewall_custom","rules":[{"id":"r1","expression":"http.host eq \"a.example\" and ssl","action":"block"}]},{"id":"rs","kind":"zone","phase":"http_response_headers_transform","rules":[{"id":"h1","expression":"true","action":"rewrite","action_parameters":{"headers":{"server":{"operation":"remove"}}}}]}]}}
+{"at":0,"ip":"10.0.0.1","ssl":true,"raw":"GET /a HTTP/1.1\r\nHost: a.example\r\n\r\n"}
+{"at":0,"ip":"10.0.0.1","raw":"GET /b?c HTTP/1.0\nHost: a.example\n\n","method":1,"target":"","version":0,"headers":0}
+{"at":0,"ip":"::1","raw":"POST /d HTTP/1.1\r\ncontent-length: 2\r\n\r\nef","reply":{"status":200,"headers":[["Server","x"]]}}
+{"at":0,"ip":"::1","raw":"POST /d HTTP/1.1\r\ncontent-length: 2\r\n\r\ne"}
+{"at":0,"ip":"::1","raw":"GET / HTTP/1.1\r\ntransfer-encoding: chunked\r\n\r\n"}
+{"at":0,"ip":"::1","raw":"GET / HTTP/2.0\r\n\r\n"}
+{"at":-1,"ip":"::1","raw":""}
+{"at":-1,"ip":"x","raw":""}
+{"at":-1,"ip":"x","raw":null}
+"#;
+
 #[test]
 fn whole_traces_are_answered(rt: HostRuntime) -> Result<(), Fail> {
     let alloc = rt.alloc();
@@ -291,6 +315,17 @@ fn whole_traces_are_answered(rt: HostRuntime) -> Result<(), Fail> {
             TWO_ENTRIES,
             "deploy v1\n1 v1 pass - / -\ndeploy refused /rulesets/1/phase DuplicateEntry\n2 v1 block:403 fw/r1 /admin -\n",
             Status::Done,
+        ),
+        (
+            SENT,
+            "deploy v1\n1 v1 block:403 fw/r1 /admin -\n",
+            Status::Done,
+        ),
+        (SENT_CUT, "deploy v1\nbad 2 BadHead\n", Status::BadItems),
+        (
+            SENT_BESIDE,
+            "deploy v1\n1 v1 block:403 fw/r1 /a -\n2 v1 pass - /b?c -\n3 v1 pass - /d - rep=-\nbad 5 BadHead\nbad 6 BadHead\nbad 7 BadHead\nbad 8 BadMoment\nbad 9 BadAddress\nbad 10 Shape\n",
+            Status::BadItems,
         ),
     ];
     for (input, out, status) in cases {

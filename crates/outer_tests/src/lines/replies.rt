@@ -85,13 +85,6 @@ fn each_reply_is_told_apart(rt: HostRuntime) -> Result<(), Fail> {
     Ok(())
 }
 
-#[test]
-fn a_head_as_it_was_sent_is_no_item_yet(rt: HostRuntime) {
-    let line = r#"{"at":0,"ip":"10.0.0.1","raw":"GET / HTTP/1.1\r\n\r\n","reply":{}}"#;
-    let read = read_item(rt.alloc(), line.as_bytes());
-    assert!(rt; name_of(&read) == b"Unsupported".as_slice());
-}
-
 fn is_reply(reply: &Reply, at: Moment, moment: u64) -> bool {
     reply.status == 401
         && reply.body.bytes().is_empty()

@@ -22,7 +22,7 @@ returns-in_default-at-clause-bad c =
     let is_addr = subst (IsAddrFound ip) c.in-Some-from.is both.0.2 in
     let told = told_with ip c.in-Some.told in
     asked.moment told c.in-Some.reply (both.0.1, both.1) c.in-Some-from.from (ip, both.0.1.ip, is_addr)
-    (request-undated told c.in-Some.reply c.in_default-at.is) refl
+    (request-undated told.at c.in-Some.reply c.in_default-at.is) refl
 
 pub returns-in_default-dated-clause-bad : goal.returns-in_default-dated-clause-bad
 returns-in_default-dated-clause-bad c =
@@ -32,4 +32,4 @@ returns-in_default-dated-clause-bad c =
     let told = told_with ip c.in-Some.told in
     let late = subst (IsDatedFound c.in-Some.reply) c.in_default-dated.is c.dated.ensures in
     asked.moment told c.in-Some.reply (both.0.1, both.1) c.in-Some-from.from (ip, both.0.1.ip, is_addr)
-    (reply-undated told c.in-Some.reply late) refl
+    (reply-undated told.at c.in-Some.reply late) refl
