@@ -1,10 +1,11 @@
 //! The gate itself: what many threads share.
 
-use crate::desk::Desk;
+use crate::desk::{DeployFault, Desk};
 use crate::passes::{Pass, Passes};
 use edge_base::Memory;
 use rate_shared::{Counters, Note, Totals};
 use ruleset_model::Config;
+use serde_json::Value;
 use std::alloc::Global;
 use std::hash::RandomState;
 use std::sync::Wait;
@@ -17,12 +18,14 @@ pub struct Gate {
 }
 
 impl Gate {
-    ghost use Rattle.std.specs.Prelude.{◌≡◌, ◌≤◌, All, length, IfOk, IfErr};
+    ghost use Rattle.std.specs.Prelude.{◌≡◌, ◌≤◌, All, length, IfOk, IfErr, OnErr};
     ghost use mathlib.Core.List.{IsPrefix};
+    ghost use Rattle.serde_json.specs.View.{view};
     ghost use Rattle.rate_shared.specs.Callers.{IsOf, IsNoteOf, noted_of};
     ghost use Rattle.rate_shared.specs.Close.{AreAll, OneIsMissing, Closes};
     ghost use Rattle.rate_shared.specs.Promise.{Grows};
-    ghost use Rattle.gate_run.specs.Passes.{IsOpened, IsPassOf, IsSamePass, shape_in, caller_of, seen_by, seens_in};
+    ghost use Rattle.gate_run.specs.Deployments.{IsDeployed, IsRefusedFor};
+    ghost use Rattle.gate_run.specs.Passes.{IsOpened, IsPassOf, IsSamePass, shape_in, caller_of, seen_by, page_of, seens_in};
 
     /// A gate with so many passes, and a lane with room for so many live keys for each hasher. The empty configuration is
     /// in force as version 0, and the history is empty. Nobody looks yet, so it waits for nobody.
@@ -45,6 +48,22 @@ impl Gate {
             Passes { seens, readers },
             Desk { deployer },
         ))
+    }
+
+    /// Deploys the configuration that a document stands for, as the next version, and answers its number. A refusal
+    /// publishes nothing. It waits for passes that are looking.
+    pub fn deploy<R: Wait>(
+        &self,
+        rt: &R,
+        alloc: Global,
+        desk: &mut Desk,
+        value: &Value,
+    ) -> Result<u64, DeployFault>
+        ensures deployed { IfOk result (IsDeployed (view value.now) (page_of desk.old) (page_of desk.new)) }
+        ensures refused { IfErr result (IsRefusedFor (view value.now) (page_of desk.old)) }
+        ensures err { OnErr result (page_of desk.new ≡ page_of desk.old) }
+    {
+        desk.deploy(rt, alloc, value)
     }
 
     /// Sees all steps so far, and tells how many they are. Takes no memory, and waits for nobody.

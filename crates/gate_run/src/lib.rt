@@ -7,7 +7,7 @@ mod gate;
 mod passes;
 mod sharing;
 
-pub use desk::Desk;
+pub use desk::{DeployFault, Desk};
 pub use gate::Gate;
 pub use passes::{Pass, Passes};
 pub use sharing::gates_are_shared;
