@@ -228,6 +228,7 @@ fn check_read<R: Abort + RandomSource + AllocGlobal>(
 }
 
 /// A command, its input, and all that it writes where no write fails.
+#[derive(Drop)]
 struct Case {
     words: &'static [&'static str],
     input: &'static str,
