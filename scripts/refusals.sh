@@ -1,10 +1,10 @@
 #!/usr/bin/env bash
 # Refuses each of the first allocations of the built program in turn, alone and with all that come after it: the program
 # must then say that memory was refused, end in 7 and have written a front of the whole output, or write the whole output.
-# usage: scripts/refusals.sh [LAST [TRACE]]     by default 400 and examples/first.jsonl
+# usage: scripts/refusals.sh [LAST [TRACE]]     by default 500 and examples/first.jsonl
 set -u
 cd "$(dirname "$0")/.." || exit 1
-program=crates/edge/out/edge last=${1:-400} trace=${2:-examples/first.jsonl}
+program=crates/edge/out/edge last=${1:-500} trace=${2:-examples/first.jsonl}
 [ -x "$program" ] || { echo "refusals: the program isn't built; left out"; exit 0; }
 command -v cc >/dev/null || { echo "refusals: no C compiler; left out"; exit 0; }
 work=$(mktemp -d) || exit 1
