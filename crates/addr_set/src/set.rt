@@ -65,6 +65,3 @@ impl AddrSet {
         }
     }
 }
-
-#[cfg(test)]
-mod tests;

@@ -60,6 +60,3 @@ pub fn print_addr(alloc: Global, addr: Addr) -> Result<Text, Memory>
 {
     Ok(Text::from_vec(spelling(alloc, addr)?.into_bytes()))
 }
-
-#[cfg(test)]
-mod tests;

@@ -10,8 +10,6 @@ mod moment;
 mod refusal;
 mod rule_name;
 mod terminal;
-#[cfg(test)]
-mod tests;
 mod text;
 mod token;
 

@@ -25,6 +25,3 @@ pub use shared::may_be_shared;
 pub use target::{UriParts, path_of, query_of, uri_of};
 pub use text_map::TextMap;
 pub use value::{Value, Values, copy_values};
-
-#[cfg(test)]
-mod tests;

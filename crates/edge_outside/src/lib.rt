@@ -17,8 +17,6 @@ mod shown_link;
 mod sink;
 mod source;
 mod standard;
-#[cfg(test)]
-mod tests;
 mod text_sink;
 mod text_source;
 mod turnstile;

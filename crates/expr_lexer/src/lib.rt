@@ -5,8 +5,6 @@
 mod bytes;
 mod fronts;
 mod scanner;
-#[cfg(test)]
-mod tests;
 mod tokens;
 
 pub use edge_base::{Token, TokenKind, Tokens};

@@ -108,6 +108,3 @@ impl Lists {
 pub fn list_faults_are_unique()
     ensures { ListFaultsAreUnique }
 {}
-
-#[cfg(test)]
-mod tests;

@@ -5,8 +5,6 @@
 mod overrides;
 mod plain;
 mod resolution;
-#[cfg(test)]
-mod tests;
 
 pub use overrides::{NamedOverrides, Override, Overrides, copy_named_overrides};
 pub use plain::{Effective, Plain};

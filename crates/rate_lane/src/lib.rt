@@ -10,8 +10,6 @@ mod laws;
 mod order;
 mod sharing;
 mod stepping;
-#[cfg(test)]
-mod tests;
 
 pub use lane::Lane;
 pub use lanes::Lanes;

@@ -9,8 +9,6 @@ mod key;
 mod laws;
 mod plain;
 mod tally;
-#[cfg(test)]
-mod tests;
 mod window;
 
 pub use entry::{Answer, Ask, Counted, Counts, Entry};

@@ -12,6 +12,3 @@ pub use changes::{Change, Changes, HeaderChange, HeaderChanges};
 pub use header_list::apply_headers;
 pub use redirection::target;
 pub use uri::apply;
-
-#[cfg(test)]
-mod tests;

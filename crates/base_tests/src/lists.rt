@@ -2,10 +2,11 @@ ghost use Rattle.std.specs.Prelude.{◌≡◌, ℕ, ◌<◌, length, IfOk};
 ghost use Rattle.std.specs.List.{All};
 ghost use Rattle.list_store.specs.Parts.{IsListKind};
 
-use super::*;
-use edge_base::{Text, Texts, parse_addr};
+use edge_base::{Addr, Text, Texts, parse_addr};
 use edge_fields::Basic;
+use list_store::{ListFault, ListPart, ListParts, Lists};
 use sqlite_items::Items;
+use std::alloc::Global;
 use std::test::Fail;
 
 /// A list of addresses or of texts, its items divided by blanks.

@@ -1,4 +1,4 @@
-use super::*;
+use edge_base::{Addr, parse_addr, print_addr};
 use std::test::Fail;
 
 /// The number of a V6 address by its two halves.

@@ -1,11 +1,11 @@
 ghost use Rattle.std.specs.Prelude.{◌≡◌, ◌≤◌};
 
 use super::source;
-use crate::{
+use edge_base::{Addr, Memory};
+use edge_outside::{
     Failed, Link, Listener, MemoryDoor, MemoryLink, MemoryLinks, Numbers, Sink, Source, TextSink,
     write_all,
 };
-use edge_base::{Addr, Memory};
 use std::alloc::Global;
 use std::process::Abort;
 use std::sync::Wait;

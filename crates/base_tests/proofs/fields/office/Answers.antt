@@ -2,7 +2,7 @@ use Rattle.std.proofs.Common.{ℕ, List, [], ◌∷◌, ◌++◌, refl, subst, s
 use Rattle.std.specs.List.{IsDistinct}
 use Rattle.edge_fields.specs.declared.kind.Basic.TheVariants as basic
 use Rattle.edge_fields.specs.Schemes.{AreLists}
-use Rattle.edge_fields.proofs.tests.office.Goals as goal
+use Rattle.base_tests.proofs.fields.office.Goals as goal
 
 one_list : (name : List ℕ) → AreLists ((name, basic.Addr) ∷ [])
 unfolding IsDistinct

@@ -1,4 +1,4 @@
-use crate::{
+use edge_base::{
     Addr, Expr, Exprs, Header, Headers, Item, ListedItems, Lit, Memory, Moment, Order, Reply,
     Request, RuleName, Test, Text, copy_exprs, copy_headers, copy_items, copy_rule_names,
     copy_texts,

@@ -1,11 +1,11 @@
 mod links;
 mod origins;
 
-use crate::{
+use edge_base::{Memory, Text};
+use edge_outside::{
     Failed, LineReader, LineStep, Numbers, Sink, Source, StderrSink, StdinSource, StdoutSink,
     TextSink, TextSource, write_all,
 };
-use edge_base::{Memory, Text};
 use std::alloc::Global;
 use std::io;
 use std::io::{Read, Write};

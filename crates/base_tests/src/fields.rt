@@ -1,10 +1,10 @@
 ghost use Rattle.std.specs.Prelude.{IfOk};
 ghost use Rattle.edge_fields.specs.Schemes.{AreLists};
 
-use crate::{
+use edge_base::{Addr, Header, Headers, Memory, Moment, Reply, Request, Text};
+use edge_fields::{
     Basic, FieldId, FunctionId, ListKinds, Scheme, Value, field, field_named, function_named,
 };
-use edge_base::{Addr, Header, Headers, Memory, Moment, Reply, Request, Text};
 use sqlite_items::Items;
 use std::alloc::Global;
 use std::test::Fail;

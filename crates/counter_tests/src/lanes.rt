@@ -1,8 +1,8 @@
 ghost use Rattle.std.specs.Prelude.{◌≡◌, ◌≤◌};
 ghost use Rattle.rate_plain.specs.KeyParts.{HasRanges};
 
-use crate::{Lane, Lanes, a_lane_is_sent, lanes_are_sent};
 use edge_base::{Memory, Moment, RuleName, Text};
+use rate_lane::{Lane, Lanes, a_lane_is_sent, lanes_are_sent};
 use rate_plain::{Answer, Ask, Key, PlainCounter, StepFault, Tally};
 use sqlite_items::Items;
 use std::alloc::Global;

@@ -3,8 +3,8 @@ ghost use Rattle.rate_plain.specs.KeyParts.{HasRanges};
 ghost use Rattle.rate_plain.specs.Keys.{key_bytes};
 ghost use Rattle.rate_plain.specs.Worked.{worked_key, worked_bytes};
 
-use crate::{Answer, Ask, Key, PlainCounter, StepFault, Tally, fnv1a64, lane_of};
 use edge_base::{Memory, Moment, RuleName, Text};
+use rate_plain::{Answer, Ask, Key, PlainCounter, StepFault, Tally, fnv1a64, lane_of};
 use sqlite_items::Items;
 use std::alloc::Global;
 use std::process::Abort;

@@ -1,4 +1,4 @@
-use crate::{LexFault, Token, TokenKind, lex};
+use expr_lexer::{LexFault, Token, TokenKind, lex};
 use std::alloc::Global;
 
 /// A text, and beneath each of its bytes what it is: a capital letter at the first byte of a token, the same in lower

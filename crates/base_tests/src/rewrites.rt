@@ -1,5 +1,5 @@
-use crate::{Change, Changes, HeaderChange, HeaderChanges, apply, apply_headers, target};
 use edge_base::{Addr, Header, Headers, Memory, Moment, Request, Text, TextBuilder};
+use rewrite_apply::{Change, Changes, HeaderChange, HeaderChanges, apply, apply_headers, target};
 use sqlite_items::Items;
 use std::alloc::Global;
 use std::process::Abort;

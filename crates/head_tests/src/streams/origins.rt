@@ -1,8 +1,8 @@
-use crate::{
+use edge_base::{Addr, Header, Headers, Memory, Moment, Reply, Request, Text};
+use edge_outside::{
     AskFault, Clock, EchoOrigin, FailingOrigin, ListClock, Moments, Numbers, OpenTurnstile, Origin,
     Point, Turnstile,
 };
-use edge_base::{Addr, Header, Headers, Memory, Moment, Reply, Request, Text};
 use std::alloc::Global;
 use std::process::Abort;
 use std::sync::Wait;

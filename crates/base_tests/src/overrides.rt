@@ -1,5 +1,5 @@
-use crate::{Effective, NamedOverrides, Override, Overrides, Plain, effective};
 use edge_base::{Memory, Text, Texts};
+use override_plan::{Effective, NamedOverrides, Override, Overrides, Plain, effective};
 use sqlite_items::Items;
 use std::alloc::Global;
 use std::process::Abort;

@@ -1,6 +1,5 @@
-use super::*;
-use crate::{ItemFault, parse_items};
-use edge_base::{Text, Texts, parse_addr};
+use addr_set::{AddrSet, ItemFault, parse_items};
+use edge_base::{Addr, Item, Text, Texts, parse_addr};
 use sqlite_items::Items;
 use std::test::Fail;
 
