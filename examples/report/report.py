@@ -132,14 +132,26 @@ def items_of(path):
                 yield item
 
 
+def head_of(item):
+    """The target and the headers of a request that was answered: told by its line, or as they stand in `raw`."""
+    if "raw" not in item:
+        return item.get("target"), item.get("headers", [])
+    first, *lines = item["raw"].lstrip("\r\n").partition("\r\n\r\n")[0].split("\r\n")
+    headers = [(name, value.strip(" \t")) for name, _, value in (line.partition(":") for line in lines)]
+    return first.split(" ")[1], headers
+
+
 def key_of(item, told_by):
     """What the key of a request is told by."""
     if item is None:
         return "(not told: no trace)"
-    if not told_by.startswith("header:"):
-        return str(item.get(told_by))
-    name = told_by[7:].lower()
-    return next((value for other, value in item.get("headers", []) if other.lower() == name), "(none)")
+    if told_by == "ip":
+        return str(item.get("ip"))
+    target, headers = head_of(item)
+    if told_by == "target":
+        return target
+    name = told_by.removeprefix("header:").lower()
+    return next((value for other, value in headers if other.lower() == name), "(none)")
 
 
 def moment_of(item, answer):
@@ -283,6 +295,8 @@ def words():
     arguments = parser.parse_args()
     if len(arguments.outputs) > 2:
         parser.error("two outputs at most")
+    if arguments.key not in ("ip", "target") and not arguments.key.startswith("header:"):
+        parser.error("a key is told by ip, target or header:NAME")
     return arguments
 
 
