@@ -21,6 +21,10 @@ if [ -e /dev/full ]; then printf '{}' | "$program" check >/dev/full; show $? 6 "
 "$program" make 7 1 </dev/null; show $? 0 "a deployment and one request, made from a seed"
 "$program" make 7 1 <examples >/dev/null; show $? 0 "the same where the input is a folder: nothing is read of it"
 if [ -e /dev/full ]; then "$program" make 7 1000 </dev/null >/dev/full; show $? 6 "made lines that can't be written"; fi
+"$program" make 7 40 --run </dev/null; show $? 0 "forty requests, made, judged and summed up"
+if [ -e /dev/full ]; then "$program" make 7 40 --run </dev/null >/dev/full; show $? 6 "a summary that can't be written"; fi
+"$program" make 7 1 --run --run </dev/null; show $? 2 "a flag that stands twice"
+"$program" replay --run </dev/null; show $? 2 "the flag of another command"
 "$program" make 7 </dev/null; show $? 2 "the words 'make 7'"
 "$program" make 07 1 </dev/null; show $? 2 "a seed with a zero before it"
 "$program" make 7 10000001 </dev/null; show $? 2 "more than 10,000,000 requests"

@@ -1,14 +1,13 @@
--- The words of a command line, read from the front.
-use Rattle.std.proofs.Common.{◌≡◌, ◌<◌, ◌≤◌, ◌^◌, ℕ, Bool, true, false, ◌&&◌, nat_le, cond, List, [], ◌∷◌, map, length, codes, decimal, Option, Some, None, option_map, option_and_then, bytes_eq, Result, Ok, inl, inr, refl, sym, ap, subst, ◌∙◌, arith}
+-- The numbers that words are.
+use Rattle.std.proofs.Common.{◌≡◌, ◌<◌, ◌≤◌, ◌^◌, ℕ, Bool, true, false, ◌&&◌, nat_le, cond, List, decimal, Option, Some, None, bytes_eq, Result, Ok, inl, inr, refl, sym, ap, subst, ◌∙◌, arith}
 use Rattle.std.proofs.lemmas.Bool.{cases_Bool}
 use Rattle.std.proofs.lemmas.Bool.Decides.{nat_tests}
 use Rattle.std.proofs.lemmas.Fmt.{decimal_is_IsNumeral, parse-decimal}
 use Rattle.std.proofs.lemmas.Result.{OkIff-at_ok}
 use Rattle.std.proofs.lemmas.Slice.Eq.{bytes_eq-Decides}
-use Rattle.std.specs.Borrow.{Bor}
 use Rattle.std.specs.Str.Parse.{ParsesUnsigned, digits_value}
 use Rattle.edge_main.specs.declared.commands.Command.{Command}
-use Rattle.edge_main.specs.Commands.{is_dashed, places_of, places_left, number_of, making_of, command_named, command_for}
+use Rattle.edge_main.specs.Commands.{number_of}
 
 pub false-not-true : ¬ (false ≡ true)
 false-not-true is = absurd cc
@@ -62,73 +61,3 @@ not_written a b is = rw is refl
 pub not_low : (a b : Bool) → b ≡ false → (a && b) ≡ false
 not_low true b is = is
 not_low false b is = refl
-
--- ---- whether all places were taken
-
-mark_is_dashed : (word : List ℕ) → bytes_eq word (codes "--") ≡ true → is_dashed word ≡ true
-mark_is_dashed word is = ap is_dashed ((bytes_eq-Decides word (codes "--")).0 is)
-
-not_empty : (word : List ℕ) (left : Option (List (List ℕ))) → ¬ (option_map (λ (places : List (List ℕ)). word ∷ places) left ≡ Some [])
-not_empty word None is = absurd cc
-not_empty word (Some places) is = absurd cc
-
--- two words and more aren't all `--`
-some_places : (word next : List ℕ) (words : List (List ℕ)) → ¬ (places_of (word ∷ next ∷ words) ≡ Some [])
-some_places word next words is = elim (cases_Bool (bytes_eq word (codes "--"))) [
-  | inl mark ↦
-      let some : places_of (word ∷ next ∷ words) ≡ Some (next ∷ words) = rw mark refl in
-      let never : Some (next ∷ words) ≡ Some [] = sym some ∙ is in absurd cc
-  | inr other ↦ elim (cases_Bool (is_dashed word)) [
-    | inl dashed ↦
-        let none : places_of (word ∷ next ∷ words) ≡ None = rw (other, dashed) refl in
-        let never : None ≡ Some [] = sym none ∙ is in absurd cc
-    | inr plain ↦
-        let some : places_of (word ∷ next ∷ words) ≡ option_map (λ (places : List (List ℕ)). word ∷ places) (places_of (next ∷ words)) =
-        rw (other, plain) refl in
-        absurd (not_empty word (places_of (next ∷ words)) (sym some ∙ is))
-  ]
-]
-
-pub more_left : (has_come : Bool) (words : List (Bor (List ℕ))) → 2 ≤ length words
-    → ¬ (places_left has_come (map (λ (word : Bor (List ℕ)). word.now) words) ≡ Some [])
-more_left has_come [] more is = absurd (omega (arith, more))
-more_left has_come (word ∷ []) more is = absurd (omega (arith, more))
-more_left true (word ∷ next ∷ words) more is = absurd cc
-more_left false (word ∷ next ∷ words) more is =
-    absurd (some_places word.now next.now (map (λ (word : Bor (List ℕ)). word.now) words) is)
-
--- ---- commands
-
--- the command that these places are
-abbrev command_by : Option (List (List ℕ)) → Option Command
-command_by places = option_and_then command_for places
-
--- a word, and the places behind it
-abbrev led_by : List ℕ → Option (List (List ℕ)) → Option (List (List ℕ))
-led_by word places = option_map (λ (others : List (List ℕ)). word ∷ others) places
-
--- more places than a seed and a count
-make_others : (name seed requests : List ℕ) (left : Option (List (List ℕ))) → ¬ (left ≡ Some [])
-    → None ≡ command_by (led_by name (led_by seed (led_by requests left)))
-make_others name seed requests None more = refl
-make_others name seed requests (Some []) more = absurd (more refl)
-make_others name seed requests (Some (other ∷ others)) more = refl
-
-pub make_more : (name seed requests : List ℕ) (places others more left : Option (List (List ℕ))) → places ≡ led_by name others
-    → others ≡ led_by seed more → more ≡ led_by requests left → ¬ (left ≡ Some []) → None ≡ command_by places
-make_more name seed requests places others more left is behind last others_left =
-    make_others name seed requests left others_left
-    ∙ sym (ap command_by (is ∙ ap (led_by name) (behind ∙ ap (led_by seed) last)))
-
--- more places than a name
-named_others : (name : List ℕ) (left : Option (List (List ℕ))) → bytes_eq name (codes "make") ≡ false → ¬ (left ≡ Some [])
-    → None ≡ command_by (led_by name left)
-named_others name None other more = refl
-named_others name (Some []) other more = absurd (more refl)
-named_others name (Some (a ∷ [])) other more = refl
-named_others name (Some (a ∷ b ∷ [])) other more = rw other refl
-named_others name (Some (a ∷ b ∷ c ∷ others)) other more = refl
-
-pub named_more : (name : List ℕ) (places left : Option (List (List ℕ))) → places ≡ led_by name left
-    → bytes_eq name (codes "make") ≡ false → ¬ (left ≡ Some []) → None ≡ command_by places
-named_more name places left is other more = named_others name left other more ∙ sym (ap command_by is)

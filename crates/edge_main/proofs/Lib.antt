@@ -2,10 +2,13 @@ pub mod AskedLemmas
 pub mod CheckLemmas
 pub mod CommandLemmas
 pub mod DocumentLemmas
+pub mod MadeLinesLemmas
 pub mod MakingLemmas
 pub mod MeaningLemmas
 pub mod OutputLemmas
 pub mod RunLemmas
 pub mod RunningLemmas
 pub mod ShownLemmas
+pub mod SummaryLemmas
 pub mod TalkedLemmas
+pub mod TrialLemmas

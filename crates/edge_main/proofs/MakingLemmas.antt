@@ -7,7 +7,7 @@ use Rattle.trace_form.specs.Made.{made_line}
 use Rattle.edge_main.specs.Making.{made_lines, AddsLines, WroteFrontOf}
 
 -- one more line
-line_next : (seed index : ℕ) → made_lines seed index ++ made_line seed index ≡ made_lines seed (suc index)
+pub line_next : (seed index : ℕ) → made_lines seed index ++ made_line seed index ≡ made_lines seed (suc index)
 unfolding made_lines
 line_next seed index = refl
 
@@ -37,7 +37,7 @@ lines_more seed count (suc more) end is =
           ∙ append_assoc (made_lines seed count) rest (made_line seed (more + count)),
     )
 
-lines_front : (seed count end : ℕ) → count ≤ end → (rest : List ℕ) × (made_lines seed end ≡ made_lines seed count ++ rest)
+pub lines_front : (seed count end : ℕ) → count ≤ end → (rest : List ℕ) × (made_lines seed end ≡ made_lines seed count ++ rest)
 lines_front seed count end low =
     let all : end ≡ (end - count) + count = omega (arith, low) in
     lines_more seed count (end - count) end all

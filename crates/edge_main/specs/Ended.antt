@@ -12,6 +12,7 @@ use Rattle.edge_main.specs.CheckEnded.{ChecksAs}
 use Rattle.edge_main.specs.Making.{MakesAs}
 use Rattle.edge_main.specs.Output.{IsRun, IsRunOf, IsOutput, texts_of}
 use Rattle.edge_main.specs.Spent.{WasSpent}
+use Rattle.edge_main.specs.Tried.{TriesAs}
 
 -- the output of a run over the whole input was written, and no step was one too many; `any_bad` says whether a line was
 -- no item
@@ -85,6 +86,7 @@ EndsBy None left got ended input before after = Appends (got before) (got after)
 EndsBy (Some command.Check) left got ended input before after = ChecksAs left got ended input before after
 EndsBy (Some command.Replay) left got ended input before after = EndsAs left got ended input before after
 EndsBy (Some (command.Make seed requests)) left got ended input before after = MakesAs got seed requests ended before after
+EndsBy (Some (command.Trial seed requests)) left got ended input before after = TriesAs got seed requests ended before after
 
 -- where no write failed, the answers of whole lines were written
 abbrev pub AnswersWhole : {I O : Type 0} → (I → Option (List ℕ)) → (O → ℕ) → (O → Option (List ℕ)) → Status → I → I → O → O → Type 0
@@ -99,6 +101,7 @@ AnswersBy (Some command.Check) left faults got ended input input' before after =
 AnswersBy (Some command.Replay) left faults got ended input input' before after =
     AnswersWhole left faults got ended input input' before after
 AnswersBy (Some (command.Make seed requests)) left faults got ended input input' before after = Unit {0}
+AnswersBy (Some (command.Trial seed requests)) left faults got ended input input' before after = Unit {0}
 
 -- where the words are a command, no read and no write failed and the input had fewer than 2^40 bytes, it was judged whole,
 -- or a step was one too many, or memory was refused

@@ -14,3 +14,7 @@ pub mod Shown
 pub mod Spent
 pub mod Statuses
 pub mod Stepping
+pub mod Summary
+pub mod Summing
+pub mod Tried
+pub mod Trying

@@ -1,5 +1,5 @@
 -- The loop of `replay`: what stands between two lines. No public clause cites these words.
-use Rattle.std.specs.Prelude.{◌≡◌, ◌≢◌, ℕ, ◌+◌, ◌<◌, ◌≤◌, ◌^◌, List, [], ◌∷◌, ◌++◌, length, Option, Some, Result, Ok, Err}
+use Rattle.std.specs.Prelude.{◌≡◌, ◌≢◌, ℕ, ◌+◌, ◌<◌, ◌≤◌, ◌^◌, List, [], ◌∷◌, ◌++◌, length, Option, None, Some, Result, Ok, Err}
 use Rattle.std.specs.Arc.{arc_value}
 use Rattle.std.specs.Io.KnownBytes.{Appends, Consumes}
 use Rattle.edge_outside.specs.declared.line_reader.LineReader.{LineReader}
@@ -22,12 +22,15 @@ use Rattle.ruleset_model.specs.ConfigParts.{ConfigParts}
 use Rattle.ruleset_model.specs.Valid.{IsValid}
 use Rattle.ruleset_model.specs.declared.picked.Picked.{Picked}
 use Rattle.trace_form.specs.declared.item.Recorded.{Recorded}
+use Rattle.trace_form.specs.declared.output.LineParts.{LineParts}
 use Rattle.trace_form.specs.declared.refusal.BadCause.TheVariants as cause
 use Rattle.trace_form.specs.declared.refusal.LineFault.{LineFault}
 use Rattle.trace_form.specs.declared.refusal.LineFault.TheVariants as bad
 use Rattle.edge_main.specs.Answered.{RunState, opening, Answered, refused, put_in_force, turned_down, judged}
+use Rattle.edge_main.specs.Answered as line
 use Rattle.edge_main.specs.Output.{IsAnswered, IsRun, IsTaken, IsTurnedDown, texts_of}
 use Rattle.edge_main.specs.Named.{IsMeaningOf}
+use Rattle.edge_main.specs.Summary.{requests_in}
 use Rattle.edge_main.specs.Spent.{IsSpentFor, IsSpentOn, WasSpent}
 use Rattle.edge_main.specs.Ended.{Ended, WroteFront, WroteAnswers, WroteWhole, IsBegun}
 
@@ -79,10 +82,21 @@ abbrev pub TookLine : RunState → List ℕ → List ℕ → Run → List ℕ �
 TookLine before given pending after pending' =
     (answered : Answered) × IsAnswered before given answered × HasCome after answered.after × (pending' ≡ pending ++ answered.text)
 
+-- so far the run has come, and the line was a request that was answered as these parts tell
+abbrev pub CameTelling : Answered → LineParts → Run → Type 0
+CameTelling answered parts after = (answered.kind ≡ line.request parts) × HasCome after answered.after
+
 -- the run has judged a request and its reply
-abbrev pub JudgedSo : RunState → Recorded → List ℕ → Run → Type 0
-JudgedSo before recorded text after =
-    (listed : Listed) × IsMeaningOf before.config.lists listed × Came (judged listed before recorded) text after
+abbrev pub JudgedSo : RunState → Recorded → LineParts → Run → Type 0
+JudgedSo before recorded parts after =
+    (listed : Listed) × IsMeaningOf before.config.lists listed × CameTelling (judged listed before recorded) parts after
+
+-- the run has taken a line: a request, of which the parts are given, or another, of which the text is
+abbrev pub TookSo : RunState → List ℕ → Option LineParts → List ℕ → Run → Type 0
+TookSo before given (Some parts) text after =
+    (answered : Answered) × IsAnswered before given answered × CameTelling answered parts after
+TookSo before given None text after =
+    (answered : Answered) × IsAnswered before given answered × (requests_in answered.kind ≡ []) × Came answered text after
 
 -- a step of the request or its reply was one too many
 abbrev pub SpendsSo : RunState → Recorded → Type 0

@@ -1,7 +1,7 @@
 //! The words of a command line, and the command that they are.
 
-ghost use Rattle.std.specs.Prelude.{◌≡◌, ◌≤◌, ◌↔◌, [], Some, map, bytes_eq, decimal, IsTrue, IfSome};
-ghost use Rattle.edge_main.specs.Commands.{is_dashed, number_of, making_of, command_named, command_in, places_of, left_in, TakesFirst, IsFew};
+ghost use Rattle.std.specs.Prelude.{◌≡◌, ◌≤◌, map, bytes_eq, decimal, IfSome};
+ghost use Rattle.edge_main.specs.Commands.{is_dashed, number_of, making_of, command_named, command_in, given_by, left_in, at_end, IsPastFlag, TakesFirst, IsFew};
 
 use itoa::Buffer;
 
@@ -15,6 +15,8 @@ pub enum Command {
     Replay,
     /// A large valid input from a seed, with so many requests, at most 10,000,000.
     Make(u64, u64),
+    /// The same input, judged and summed up.
+    Trial(u64, u64),
 }
 
 /// Whether a word begins with `-`.
@@ -56,15 +58,32 @@ pub struct Places<'a> {
     pub words: &'a [&'a str],
     /// Whether `--` has come: each word is a place then.
     pub has_come: bool,
+    /// Whether the flag `--run` has come.
+    pub run: bool,
 }
 
 impl<'a> Places<'a> {
     fn new(words: &'a [&'a str]) -> Places<'a>
-        ensures { left_in result ≡ places_of (map (λ word. word.now) words.now) }
+        ensures { left_in result ≡ given_by (map (λ word. word.now) words.now) }
     {
         Places {
             words,
             has_come: false,
+            run: false,
+        }
+    }
+
+    /// Passes over the flag, where it comes next for the first time.
+    fn pass_flag(&mut self)
+        ensures left { left_in self.new ≡ left_in self.old }
+        ensures past { IsPastFlag self.new }
+    {
+        let [first, others @ ..] = self.words else {
+            return;
+        };
+        if !self.has_come && !self.run && *first == "--run" {
+            self.words = others;
+            self.run = true;
         }
     }
 
@@ -72,6 +91,7 @@ impl<'a> Places<'a> {
     fn take(&mut self) -> Option<&'a str>
         ensures { TakesFirst (left_in self.old) result (left_in self.new) }
     {
+        self.pass_flag();
         let [first, others @ ..] = self.words else {
             return None;
         };
@@ -90,14 +110,15 @@ impl<'a> Places<'a> {
         Some(*second)
     }
 
-    /// Whether all places were taken.
-    fn is_end(&self) -> bool
-        ensures { IsTrue result ↔ (left_in self.now ≡ Some []) }
+    /// Whether the flag stands, where all places were taken.
+    fn end(&mut self) -> Option<bool>
+        ensures { result ≡ at_end (left_in self.old) }
     {
+        self.pass_flag();
         match self.words {
-            [] => true,
-            [word] => !self.has_come && *word == "--",
-            [_, _, ..] => false,
+            [] => Some(self.run),
+            [word] if !self.has_come && *word == "--" => Some(self.run),
+            [_, ..] => None,
         }
     }
 }
@@ -116,14 +137,18 @@ fn command_named(word: &[u8]) -> Option<Command>
     }
 }
 
-/// The making of so many requests from a seed.
-fn making_of(seed: &str, requests: &str) -> Option<Command>
-    ensures command { result ≡ making_of seed.now requests.now }
+/// The making of so many requests from a seed, and with the flag their judging.
+fn making_of(run: bool, seed: &str, requests: &str) -> Option<Command>
+    ensures command { result ≡ making_of run seed.now requests.now }
     ensures few { IfSome result IsFew }
 {
     let seed = number_of(u64::MAX, seed)?;
     let requests = number_of(REQUESTS_MAX, requests)?;
-    Some(Command::Make(seed, requests))
+    if run {
+        Some(Command::Trial(seed, requests))
+    } else {
+        Some(Command::Make(seed, requests))
+    }
 }
 
 /// The command that the words are. Takes no memory.
@@ -133,10 +158,14 @@ pub fn command_of(words: &[&str]) -> Option<Command>
 {
     let mut places = Places::new(words);
     let name = places.take()?;
-    let command = if name == "make" {
-        making_of(places.take()?, places.take()?)?
+    if name == "make" {
+        let seed = places.take()?;
+        let requests = places.take()?;
+        return making_of(places.end()?, seed, requests);
+    }
+    if places.end()? {
+        None
     } else {
-        command_named(name.as_bytes())?
-    };
-    if places.is_end() { Some(command) } else { None }
+        command_named(name.as_bytes())
+    }
 }

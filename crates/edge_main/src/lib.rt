@@ -14,6 +14,8 @@ mod replay;
 mod run;
 mod statuses;
 mod stepping;
+mod summary;
+mod trial;
 
 pub use hashers::lane_hashers;
 pub use laws::{

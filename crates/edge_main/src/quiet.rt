@@ -10,6 +10,7 @@ use crate::commands::{Command, command_of};
 use crate::making::make_trace;
 use crate::replay::replay_input;
 use crate::statuses::Status;
+use crate::trial::try_trace;
 use edge_outside::{Sink, Source, write_all};
 use std::alloc::Global;
 use std::hash::RandomState;
@@ -44,6 +45,7 @@ fn run_command<S: Source, K: Sink>(
         Command::Check => check_input(alloc, input, out),
         Command::Replay => replay_input(alloc, hashers, input, out),
         Command::Make(seed, requests) => make_trace(alloc, seed, requests, out),
+        Command::Trial(seed, requests) => try_trace(alloc, seed, requests, hashers, out),
     }
 }
 

@@ -17,7 +17,8 @@ use std::alloc::Global;
 use std::hash::RandomState;
 use std::sync::Arc;
 use trace_form::{
-    BadCause, LineFault, LineItem, Recorded, push_bad_line, push_deploy_line, push_line, read_item,
+    BadCause, LineFault, LineItem, LineParts, Recorded, push_bad_line, push_deploy_line, push_line,
+    read_item,
 };
 
 /// How many live keys a lane of the counter has room for.
@@ -54,7 +55,7 @@ impl Run {
     ghost use Rattle.serde_json.specs.View.{view};
     ghost use Rattle.edge_main.specs.Answered.{opening, passed_by, refused, turned_down, put_in_force};
     ghost use Rattle.edge_main.specs.Spent.{IsSpentOn};
-    ghost use Rattle.edge_main.specs.Running.{HasCome, IsSomewhere, Wherever, IsPickedOf, Came, RefusedFor, AnsweredDeployment, AnsweredLine, JudgedSo, SpendsSo};
+    ghost use Rattle.edge_main.specs.Running.{HasCome, IsSomewhere, Wherever, IsPickedOf, Came, RefusedFor, AnsweredDeployment, AnsweredLine, JudgedSo, TookSo, SpendsSo};
 
     /// Nothing was read yet, and version 0 is in force. There is a hasher for each lane of the counter.
     pub fn new(alloc: Global, hashers: Vec<RandomState>) -> Result<Run, Memory>
@@ -173,27 +174,51 @@ impl Run {
         })
     }
 
-    /// A request and its reply: they are judged by the version in force.
-    fn judge(
-        &mut self,
-        alloc: Global,
-        recorded: Recorded,
-        answer: &mut TextBuilder,
-    ) -> Result<(), StepFault>
+    /// A request and its reply, judged by the version in force, as their line tells of them.
+    fn judge(&mut self, alloc: Global, recorded: Recorded) -> Result<LineParts, StepFault>
         requires lines { self.old.lines < 2 ^ 40 }
         requires somewhere { IsSomewhere self.old }
-        ensures judged { OnOk result (Wherever self.old (λ s. JudgedSo s recorded answer.new self.new)) }
+        ensures judged { IfOk result (λ parts. Wherever self.old (λ s. JudgedSo s recorded parts self.new)) }
         ensures spent { result ≡ Err StepFault.Spent → Wherever self.old (λ s. SpendsSo s recorded) }
         ensures lines { OnOk result (self.new.lines ≡ self.old.lines + 1) }
     {
         let picked = self.picked()?;
         let number = self.requests + 1;
         let parts = judge_recorded(alloc, &mut self.counter, picked, number, recorded)?;
-        answer.clear();
-        push_line(answer, &parts)?;
         self.lines += 1;
         self.requests += 1;
-        Ok(())
+        Ok(parts)
+    }
+
+    /// Takes one line. Of a request its parts are given; of another line, what is written for it is then all that `answer`
+    /// holds.
+    pub fn take(
+        &mut self,
+        alloc: Global,
+        given: &[u8],
+        answer: &mut TextBuilder,
+    ) -> Result<Option<LineParts>, StepFault>
+        requires lines { self.old.lines < 2 ^ 40 }
+        requires somewhere { IsSomewhere self.old }
+        ensures took { IfOk result (λ parts. Wherever self.old (λ s. TookSo s given.now parts answer.new self.new)) }
+        ensures spent { result ≡ Err StepFault.Spent → Wherever self.old (λ s. IsSpentOn s given.now) }
+        ensures lines { OnOk result (self.new.lines ≡ self.old.lines + 1) }
+    {
+        match read_item(alloc, given) {
+            Ok(LineItem::Blank) => {
+                self.pass_by(answer);
+                Ok(None)
+            }
+            Ok(LineItem::Deploy(value)) => {
+                self.deploy(alloc, &value, answer)?;
+                Ok(None)
+            }
+            Ok(LineItem::Ask(recorded)) => Ok(Some(self.judge(alloc, recorded)?)),
+            Err(fault) => {
+                self.refuse_for(fault, answer)?;
+                Ok(None)
+            }
+        }
     }
 
     /// Answers one line: what is written for it is then all that `answer` holds.
@@ -209,13 +234,13 @@ impl Run {
         ensures spent { result ≡ Err StepFault.Spent → Wherever self.old (λ s. IsSpentOn s given.now) }
         ensures lines { OnOk result (self.new.lines ≡ self.old.lines + 1) }
     {
-        match read_item(alloc, given) {
-            Ok(LineItem::Blank) => self.pass_by(answer),
-            Ok(LineItem::Deploy(value)) => self.deploy(alloc, &value, answer)?,
-            Ok(LineItem::Ask(recorded)) => self.judge(alloc, recorded, answer)?,
-            Err(fault) => self.refuse_for(fault, answer)?,
+        match self.take(alloc, given, answer)? {
+            Some(parts) => {
+                answer.clear();
+                Ok(push_line(answer, &parts)?)
+            }
+            None => Ok(()),
         }
-        Ok(())
     }
 
     /// How the run ends where the input does.

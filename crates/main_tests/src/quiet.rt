@@ -15,6 +15,7 @@ mod judged;
 mod limits;
 mod making;
 mod rows;
+mod trial;
 
 const DEPLOY: &str =
     "{\"deploy\":{\"rulesets\":[{\"id\":\"fw\",\"kind\":\"zone\",\"phase\":\"http_request_firewall_custom\",\"rules\":[{\"id\":\"r1\",\"expression\":\"http.request.uri.path eq \\\"/admin\\\"\",\"action\":\"block\"}]}]}}\n{\"at\":0,\"ip\":\"10.0.0.1\",\"method\":\"GET\",\"target\":\"/admin\",\"headers\":[[\"host\",\"a.example\"]]}\n";

@@ -39,7 +39,7 @@ fn requests_are_made_from_a_seed(rt: HostRuntime) -> Result<(), Fail> {
 #[test]
 fn other_words_behind_make_are_no_command(rt: HostRuntime) -> Result<(), Fail> {
     let alloc = rt.alloc();
-    let cases: [&[&str]; 14] = [
+    let cases: [&[&str]; 17] = [
         &["make"],
         &["make", "7"],
         &["make", "7", "1", "2"],
@@ -50,7 +50,10 @@ fn other_words_behind_make_are_no_command(rt: HostRuntime) -> Result<(), Fail> {
         &["make", "-7", "1"],
         &["make", "", "1"],
         &["make", "7", "1x"],
-        &["make", "7", "1", "--run"],
+        &["make", "7", "1", "--run", "--run"],
+        &["make", "7", "1", "--", "--run"],
+        &["make", "7", "--run"],
+        &["check", "--run"],
         &["make", "7", "--", "1", "--"],
         &["check", "7", "1"],
         &["--", "--", "check"],

@@ -1,33 +1,17 @@
-use Rattle.std.proofs.Common.{refl, subst}
-use Rattle.serde_json.specs.View.{view}
-use Rattle.trace_form.specs.Item.{IsItem}
-use Rattle.edge_main.specs.Answered.{passed_by}
-use Rattle.edge_main.specs.Output as answered
-use Rattle.edge_main.proofs.RunLemmas.{deployment-answered, refusal-answered, judged-answered, spent-on}
-use Rattle.edge_main.proofs.TalkedLemmas.{same_fault}
+use Rattle.std.proofs.Common.{◌++◌, Option, ap, subst, ◌∙◌}
+use Rattle.trace_form.specs.Line.{line}
+use Rattle.trace_form.specs.declared.output.LineParts.{LineParts}
+use Rattle.edge_main.specs.Running.{TookSo}
+use Rattle.edge_main.proofs.RunLemmas.{request-answered, other-answered}
 use Rattle.edge_main.proofs.run.Run.answer.Goals as goal
 
-pub returns-in-Ok-Blank-clause-answered : goal.returns-in-Ok-Blank-clause-answered
-returns-in-Ok-Blank-clause-answered c s at =
-    let blank = subst (IsItem c.args.given.now) c.in-Ok-Blank.field-0-is c.in-Ok-Blank.ensures.ok in
-    (passed_by s, answered.blank blank refl, c.pass_by.ensures.came s at)
+pub returns-in_ok-push_line-in-Some-clause-answered : goal.returns-in_ok-push_line-in-Some-clause-answered
+returns-in_ok-push_line-in-Some-clause-answered c s at =
+    let took = subst (λ (parts : Option LineParts). TookSo s c.args.given.now parts c.take.new.answer c.take.new.self) c.in-Some.is (c.in_ok-parts.ensures.took s at) in
+    request-answered s c.args.given.now c.in-Some.parts c.take.new.answer _ c.take.new.self took
+    (c.in_ok-push_line-in-Some.ensures.ok ∙ ap (λ text. text ++ line c.in-Some.parts) c.clear.ensures)
 
-pub returns-in_ok-deploy-in-Ok-Deploy-clause-answered : goal.returns-in_ok-deploy-in-Ok-Deploy-clause-answered
-returns-in_ok-deploy-in-Ok-Deploy-clause-answered c s at =
-    let deploy = subst (IsItem c.args.given.now) c.in-Ok-Deploy.field-0-is c.in-Ok-Deploy.ensures.ok in
-    deployment-answered s c.args.given.now (view c.in-Ok-Deploy.value) _ _ deploy (c.in_ok-deploy-in-Ok-Deploy.ensures.answered s at)
-
-pub returns-in_ok-judge-in-Ok-Ask-clause-answered : goal.returns-in_ok-judge-in-Ok-Ask-clause-answered
-returns-in_ok-judge-in-Ok-Ask-clause-answered c s at =
-    let ask = subst (IsItem c.args.given.now) c.in-Ok-Ask.field-0-is c.in-Ok-Ask.ensures.ok in
-    judged-answered s c.args.given.now c.in-Ok-Ask.recorded _ _ ask (c.in_ok-judge-in-Ok-Ask.ensures.judged s at)
-
-pub returns-in_err-judge-in-Ok-Ask-clause-spent : goal.returns-in_err-judge-in-Ok-Ask-clause-spent
-returns-in_err-judge-in-Ok-Ask-clause-spent c is s at =
-    let ask = subst (IsItem c.args.given.now) c.in-Ok-Ask.field-0-is c.in-Ok-Ask.ensures.ok in
-    spent-on s c.args.given.now c.in-Ok-Ask.recorded ask
-    (c.in_err-judge-in-Ok-Ask.ensures.spent (same_fault c.from_residual-in_err-judge-in-Ok-Ask.result _ c.from_residual-in_err-judge-in-Ok-Ask.ensures.1 is) s at)
-
-pub returns-in_ok-refuse_for-in-Err-clause-answered : goal.returns-in_ok-refuse_for-in-Err-clause-answered
-returns-in_ok-refuse_for-in-Err-clause-answered c s at =
-    refusal-answered s c.args.given.now c.in-Err.fault _ _ c.in-Err.ensures.bad (c.in_ok-refuse_for-in-Err.ensures.refused s at)
+pub returns-in-None-clause-answered : goal.returns-in-None-clause-answered
+returns-in-None-clause-answered c s at =
+    let took = subst (λ (parts : Option LineParts). TookSo s c.args.given.now parts c.take.new.answer c.take.new.self) c.in-None.is (c.in_ok-parts.ensures.took s at) in
+    other-answered s c.args.given.now _ c.take.new.self took

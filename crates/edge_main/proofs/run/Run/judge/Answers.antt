@@ -1,8 +1,8 @@
-use Rattle.std.proofs.Common.{◌+◌, ◌++◌, refl, sym, ap, ◌∙◌, subst}
+use Rattle.std.proofs.Common.{◌+◌, refl, sym, ap, ◌∙◌, subst}
 use Rattle.std.specs.Arc.{arc_value}
 use Rattle.ruleset_model.specs.ConfigParts.{ConfigParts}
-use Rattle.trace_form.specs.Line.{line}
 use Rattle.trace_form.specs.declared.output.LineParts.{LineParts}
+use Rattle.edge_main.specs.Answered as line
 use Rattle.edge_main.specs.Named.{IsMeaningOf}
 use Rattle.edge_main.proofs.MeaningLemmas.{meaning_of, meaning_is}
 use Rattle.edge_main.proofs.TalkedLemmas.{same_fault}
@@ -24,7 +24,7 @@ returns-clause-judged c s at =
       listed,
       subst (λ (config : ConfigParts). IsMeaningOf config.lists listed) same (meaning_is (arc_value picked.config).lists c.in_ok-picked.ensures.valid.lists_fine),
       (
-        c.in_ok-push_line.ensures.ok ∙ ap (λ xs. xs ++ line c.in_ok-parts.parts) c.clear.ensures ∙ ap (λ (parts : LineParts). line parts) told.parts_are,
+        ap (λ (parts : LineParts). line.request parts) (sym told.parts_are),
         record {
           lines = ap (λ n. n + 1) at.lines;
           requests = ap (λ n. n + 1) at.requests;
