@@ -4,7 +4,6 @@ pub mod CommandLemmas
 pub mod DocumentLemmas
 pub mod MadeLinesLemmas
 pub mod MakingLemmas
-pub mod MeaningLemmas
 pub mod OutputLemmas
 pub mod RunLemmas
 pub mod RunningLemmas

@@ -19,11 +19,11 @@ use Rattle.trace_form.specs.declared.refusal.BadCause.{BadCause}
 use Rattle.trace_form.proofs.ItemLemmas.{IsDeploy-unique, IsAsk-unique, IsNoItem-unique, blank-not_deploy, blank-not_ask, blank-not_no_item, deploy-not_ask, deploy-not_no_item, ask-not_no_item, Kind, kind-found}
 use Rattle.trace_form.proofs.ItemLemmas as kind
 use Rattle.edge_main.specs.Answered.{RunState, opening, Answered, passed_by, refused, put_in_force, turned_down, judged}
-use Rattle.edge_main.specs.Named.{IsMeaningOf}
+use Rattle.gate_run.specs.Named.{IsMeaningOf}
 use Rattle.edge_main.specs.Output.{IsAnswered, IsRun, IsOutput, IsTaken, IsTurnedDown, HasNoPatterns, IsWithoutPatterns, texts_of, RunsAreUnique, OutputsAreUnique, EveryInputHasAnOutput}
 use Rattle.edge_main.specs.Output as answered
 use Rattle.config_read.proofs.DocumentRead.{documents_are_read, document_fine}
-use Rattle.edge_main.proofs.MeaningLemmas.{meaning_of, meaning_is, meaning_unique}
+use Rattle.gate_run.proofs.MeaningLemmas.{meaning_of, meaning_is, meaning_unique}
 
 -- ---- one run after another
 

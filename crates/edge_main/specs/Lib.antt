@@ -6,7 +6,6 @@ pub mod Counting
 pub mod Document
 pub mod Ended
 pub mod Making
-pub mod Named
 pub mod Output
 pub mod RunFaults
 pub mod Running

@@ -15,7 +15,7 @@ use Rattle.trace_form.specs.Item.{IsBlank, IsDeploy, IsAsk, IsNoItem}
 use Rattle.trace_form.specs.declared.item.Recorded.{Recorded}
 use Rattle.trace_form.specs.declared.refusal.BadCause.{BadCause}
 use Rattle.edge_main.specs.Answered.{RunState, opening, Answered, passed_by, refused, put_in_force, turned_down, judged}
-use Rattle.edge_main.specs.Named.{IsMeaningOf}
+use Rattle.gate_run.specs.Named.{IsMeaningOf}
 
 -- the document is taken, and stands for this configuration
 abbrev pub IsTaken : Data → ConfigParts → Type 0

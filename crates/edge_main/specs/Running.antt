@@ -29,7 +29,7 @@ use Rattle.trace_form.specs.declared.refusal.LineFault.TheVariants as bad
 use Rattle.edge_main.specs.Answered.{RunState, opening, Answered, refused, put_in_force, turned_down, judged}
 use Rattle.edge_main.specs.Answered as line
 use Rattle.edge_main.specs.Output.{IsAnswered, IsRun, IsTaken, IsTurnedDown, texts_of}
-use Rattle.edge_main.specs.Named.{IsMeaningOf}
+use Rattle.gate_run.specs.Named.{IsMeaningOf}
 use Rattle.edge_main.specs.Summary.{requests_in}
 use Rattle.edge_main.specs.Spent.{IsSpentFor, IsSpentOn, WasSpent}
 use Rattle.edge_main.specs.Ended.{Ended, WroteFront, WroteAnswers, WroteWhole, IsBegun}

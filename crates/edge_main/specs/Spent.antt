@@ -10,7 +10,7 @@ use Rattle.trace_form.specs.Item.{IsAsk}
 use Rattle.trace_form.specs.declared.item.Recorded.{Recorded}
 use Rattle.edge_main.specs.Answered.{RunState, opening, Answered, request_talked, reply_used}
 use Rattle.edge_main.specs.Counting.{IsSpentIn}
-use Rattle.edge_main.specs.Named.{IsMeaningOf}
+use Rattle.gate_run.specs.Named.{IsMeaningOf}
 use Rattle.edge_main.specs.Output.{IsRun}
 
 -- a step of the reply is one too many

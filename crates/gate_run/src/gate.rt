@@ -1,20 +1,35 @@
 //! The gate itself: what many threads share.
 
+ghost use Rattle.std.specs.Arc.{arc_value};
+ghost use Rattle.ruleset_model.specs.Valid.{IsValid};
+ghost use Rattle.ruleset_model.specs.declared.verdict.VerdictKind.TheVariants as kind;
+
 use crate::desk::{DeployFault, Desk};
-use crate::passes::{Pass, Passes};
-use edge_base::Memory;
+use crate::passes::{Answered, Finished, Pass, Passes};
+use crate::stepping::{judge_reply, judge_request};
+use edge_base::{Memory, Moment, Reply, Request};
+use judge_core::Judged;
+use rate_plain::StepFault;
 use rate_shared::{Counters, Note, Totals};
-use ruleset_model::Config;
+use ruleset_model::{Config, Picked};
 use serde_json::Value;
+use sqlite_items::Items;
 use std::alloc::Global;
 use std::hash::RandomState;
-use std::sync::Wait;
+use std::sync::{Arc, Wait};
 use version_store::Versions;
 
 /// A gate. Its passes count in one history, which nobody keeps.
 #[derive(Drop)]
 pub struct Gate {
     pub(crate) counters: Counters,
+}
+
+/// A configuration is valid, as its rulesets tell. Takes no memory.
+fn valid_config(config: &Arc<Config>)
+    ensures { IsValid (arc_value config.now).lists (arc_value config.now).rulesets }
+{
+    let _rulesets = config.rulesets();
 }
 
 impl Gate {
@@ -25,7 +40,8 @@ impl Gate {
     ghost use Rattle.rate_shared.specs.Close.{AreAll, OneIsMissing, Closes};
     ghost use Rattle.rate_shared.specs.Promise.{Grows};
     ghost use Rattle.gate_run.specs.Deployments.{IsDeployed, IsRefusedFor};
-    ghost use Rattle.gate_run.specs.Passes.{IsOpened, IsPassOf, IsSamePass, shape_in, caller_of, seen_by, page_of, seens_in};
+    ghost use Rattle.gate_run.specs.Passes.{IsOpened, IsPassOf, IsSamePass, shape_in, caller_of, seen_by, known_to, due_to, page_of, seens_in};
+    ghost use Rattle.gate_run.specs.Promises.{AnswersIn, AnswersBy, Finishes};
 
     /// A gate with so many passes, and a lane with room for so many live keys for each hasher. The empty configuration is
     /// in force as version 0, and the history is empty. Nobody looks yet, so it waits for nobody.
@@ -48,6 +64,86 @@ impl Gate {
             Passes { seens, readers },
             Desk { deployer },
         ))
+    }
+
+    /// Judges a request in the version that is handed in. It waits for lanes alone.
+    pub fn request_in<R: Wait>(
+        &self,
+        rt: &R,
+        alloc: Global,
+        pass: &mut Pass,
+        picked: Picked,
+        request: Request,
+    ) -> Result<Answered, StepFault>
+        requires of { IsPassOf self.now pass.old }
+        ensures same { IsSamePass pass.old pass.new }
+        ensures stays { pass.new.reader ≡ pass.old.reader }
+        ensures answered { AnswersIn (shape_in self.now) pass.old.seen pass.new.seen picked request result }
+    {
+        valid_config(&picked.config);
+        let mut shown = Vec::new(alloc);
+        let judged = judge_request(
+            rt,
+            alloc,
+            &self.counters,
+            &mut pass.seen,
+            picked,
+            request,
+            &mut shown,
+        )?;
+        let counts = Items::from_vec(shown);
+        Ok(Answered { judged, counts })
+    }
+
+    /// Judges a request in the version that the pass picks. It waits for lanes alone.
+    pub fn request<R: Wait>(
+        &self,
+        rt: &R,
+        alloc: Global,
+        pass: &mut Pass,
+        request: Request,
+    ) -> Result<Answered, StepFault>
+        requires of { IsPassOf self.now pass.old }
+        ensures same { IsSamePass pass.old pass.new }
+        ensures known { IsPrefix (known_to pass.old) (known_to pass.new) }
+        ensures due { IsPrefix (due_to pass.old) (due_to pass.new) }
+        ensures told { IfOk result (λ _. IsPrefix (due_to pass.old) (known_to pass.new)) }
+        ensures answered { AnswersBy (shape_in self.now) pass.old pass.new request result }
+    {
+        let picked = pass.reader.pick()?;
+        self.request_in(rt, alloc, pass, picked, request)
+    }
+
+    /// Judges the reply to a request that passed, in the version of the request. It waits for lanes alone.
+    pub fn response<R: Wait>(
+        &self,
+        rt: &R,
+        alloc: Global,
+        pass: &mut Pass,
+        judged: Judged,
+        reply: Reply,
+        at: Moment,
+    ) -> Result<Finished, StepFault>
+        requires of { IsPassOf self.now pass.old }
+        requires passed { judged.verdict.kind ≡ kind.Pass }
+        ensures same { IsSamePass pass.old pass.new }
+        ensures stays { pass.new.reader ≡ pass.old.reader }
+        ensures finished { Finishes (shape_in self.now) pass.old.seen pass.new.seen judged reply at result }
+    {
+        valid_config(&judged.config);
+        let mut shown = Vec::new(alloc);
+        let reply = judge_reply(
+            rt,
+            alloc,
+            &self.counters,
+            &mut pass.seen,
+            judged,
+            reply,
+            at,
+            &mut shown,
+        )?;
+        let counts = Items::from_vec(shown);
+        Ok(Finished { reply, counts })
     }
 
     /// Deploys the configuration that a document stands for, as the next version, and answers its number. A refusal

@@ -1,13 +1,14 @@
-//! The gate: what many threads share when they judge requests while a desk publishes versions. Its passes count in one
-//! legal history, and know beginnings of one published list (`specs/Passes.antt`).
+//! The gate: many threads judge requests while a desk deploys rules. Each judging is the plain interpreter's in the one
+//! version that it picked, and all count in one legal history (`specs/Went.antt`, `specs/Promises.antt`).
 #![tactic(auto)]
 
 mod desk;
 mod gate;
 mod passes;
 mod sharing;
+mod stepping;
 
 pub use desk::{DeployFault, Desk};
 pub use gate::Gate;
-pub use passes::{Pass, Passes};
+pub use passes::{Answered, Finished, Pass, Passes};
 pub use sharing::gates_are_shared;

@@ -1,8 +1,10 @@
-//! What a thread judges with.
+//! What a thread judges with, and what it is answered.
 
 ghost use Rattle.std.specs.Prelude.{◌≡◌, length};
 
-use edge_base::Memory;
+use edge_base::{Memory, Reply};
+use judge_core::Judged;
+use rate_plain::Counts;
 use rate_shared::{Seen, Seens};
 use version_store::{Told, VersionReader};
 
@@ -19,6 +21,20 @@ pub struct Passes {
     pub(crate) seens: Seens,
     pub(crate) readers: Vec<VersionReader>,
     ghost paired: { length seens.items ≡ length readers.items },
+}
+
+/// What was judged of a request, and its steps.
+#[derive(Drop)]
+pub struct Answered {
+    pub judged: Judged,
+    pub counts: Counts,
+}
+
+/// The reply as it is sent, and its steps.
+#[derive(Drop)]
+pub struct Finished {
+    pub reply: Reply,
+    pub counts: Counts,
 }
 
 impl Pass {

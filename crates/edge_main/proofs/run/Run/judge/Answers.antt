@@ -3,8 +3,8 @@ use Rattle.std.specs.Arc.{arc_value}
 use Rattle.ruleset_model.specs.ConfigParts.{ConfigParts}
 use Rattle.trace_form.specs.declared.output.LineParts.{LineParts}
 use Rattle.edge_main.specs.Answered as line
-use Rattle.edge_main.specs.Named.{IsMeaningOf}
-use Rattle.edge_main.proofs.MeaningLemmas.{meaning_of, meaning_is}
+use Rattle.gate_run.specs.Named.{IsMeaningOf}
+use Rattle.gate_run.proofs.MeaningLemmas.{meaning_of, meaning_is}
 use Rattle.edge_main.proofs.TalkedLemmas.{same_fault}
 use Rattle.edge_main.proofs.run.Run.judge.Goals as goal
 

@@ -21,7 +21,7 @@ use Rattle.ruleset_model.specs.declared.ruleset.Ruleset.{Ruleset}
 use Rattle.ruleset_model.specs.Valid.{IsValid}
 use Rattle.config_read.proofs.FoundItems.{found-good}
 use Rattle.judge_core.specs.Values.{Listed}
-use Rattle.edge_main.specs.Named.{IsMeaningOf}
+use Rattle.gate_run.specs.Named.{IsMeaningOf}
 
 -- ---- one list
 

@@ -1,0 +1,4 @@
+pub mod MeaningLemmas
+pub mod WentLemmas
+pub mod SteppingLemmas
+pub mod PickLemmas
