@@ -1,5 +1,12 @@
-pub mod Places
+pub mod PlaceLemmas
+pub mod CallerLemmas
+pub mod MoveLemmas
+pub mod WorldLemmas
+pub mod FaultLemmas
+pub mod CountLemmas
+pub mod DeployLemmas
 pub mod RunLemmas
+pub mod RunningLemmas
 pub mod TurnedAway
 pub mod SinceLemmas
 pub mod SinceRuns

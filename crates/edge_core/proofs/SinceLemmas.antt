@@ -28,7 +28,7 @@ use Rattle.edge_core.specs.World.{CallerParts, Idle, Came, UnderWay, Judged, Bac
 use Rattle.edge_core.specs.Steps.{Move, Outcome, IsStep, IsDeployed, arriving, picking, finishing, backing, judged_in, judged_so, replied_in, replied_so, reply_came, moves, moved, counts, counted, asked_by, answered, number_of, config_of}
 use Rattle.edge_core.specs.Runs.{IsRun}
 use Rattle.edge_core.specs.Since.{answers_since, HasSeen, PickedSince, BackSince}
-use Rattle.edge_core.proofs.Places.{set_same, get_set_same, get_set_other}
+use Rattle.edge_core.proofs.PlaceLemmas.{set_same, get_set_same, get_set_other}
 use Rattle.edge_core.proofs.RunLemmas.{run_more, moves_history}
 
 -- ---- the answers to a caller's own steps

@@ -20,7 +20,7 @@ use Rattle.edge_core.specs.declared.event.Shown.TheVariants as shown
 use Rattle.edge_core.specs.World.{CallerParts, Idle, Came, UnderWay, Judged, Backing, WorldParts, Terms}
 use Rattle.edge_core.specs.Steps.{Move, Outcome, IsStep, IsDeployed, arriving, picking, finishing, backing, judged_in, judged_so, replied_in, replied_so, reply_came, moves, moved, counts, counted, asked_by, number_of, config_of}
 use Rattle.edge_core.specs.Laws.{IsTurnedAway, RefusalsChangeNothing}
-use Rattle.edge_core.proofs.Places.{set_same}
+use Rattle.edge_core.proofs.PlaceLemmas.{set_same}
 
 -- where the caller is turned away it stays
 abbrev pub Stays : (CallerParts → Move) → Type 0

@@ -1,5 +1,5 @@
 -- What an event comes to, by cases: the world after it, and what it shows.
-use Rattle.std.specs.Prelude.{◌≡◌, ℕ, ◌-◌, List, [], ◌∷◌, ◌++◌, length, Option, None, Some, Err, slice_get, slice_set}
+use Rattle.std.specs.Prelude.{◌≡◌, ◌⊎◌, ℕ, ◌-◌, ◌^◌, List, [], ◌∷◌, ◌++◌, length, Option, None, Some, Err, slice_get, slice_set}
 use Rattle.std.specs.Option.{unwrap_or}
 use Rattle.serde_json.specs.Data.{Data}
 use Rattle.serde_json.specs.View.{view}
@@ -9,6 +9,8 @@ use Rattle.rate_plain.specs.History.{entry_of}
 use Rattle.rate_plain.specs.Window.{answer_of}
 use Rattle.rate_plain.specs.declared.entry.Answer.{Answer}
 use Rattle.rate_plain.specs.declared.entry.Ask.{Ask}
+use Rattle.rate_plain.specs.declared.fault.StepFault.{StepFault}
+use Rattle.rate_plain.specs.declared.fault.StepFault.TheVariants as fault
 use Rattle.ruleset_model.specs.ConfigParts.{ConfigParts}
 use Rattle.ruleset_model.specs.declared.verdict.VerdictKind.{VerdictKind}
 use Rattle.ruleset_model.specs.declared.verdict.VerdictKind.TheVariants as kind
@@ -180,3 +182,39 @@ IsStep terms world (event.Done caller) outcome =
 IsStep terms world (event.Back caller reply at) outcome =
     outcome ≡ moves caller world (backing reply at) (slice_get world.callers caller)
 IsStep terms world (event.Deploy value) outcome = IsDeployed (view value) world outcome.world outcome.shown
+
+-- ---- refusals
+-- the caller's request is given up
+abbrev pub given_up : ℕ → WorldParts → WorldParts
+given_up caller world = with_caller caller Idle world
+
+-- the step that a caller of the world asks, if one is
+abbrev pub asked_at : Terms → WorldParts → Option CallerParts → Option Ask
+asked_at terms world None = None
+asked_at terms world (Some state) = asked_by terms.meaning state
+
+-- a step is asked where 2^50 were taken, or a document is taken where the number is 2^40
+abbrev pub IsSpent : Terms → WorldParts → Event → Type 0
+IsSpent terms world (event.Count caller) =
+    ((ask : Ask) × (asked_at terms world (slice_get world.callers caller) ≡ Some ask)) × (length world.history ≡ 2 ^ 50)
+IsSpent terms world (event.Deploy value) =
+    ((config : ConfigParts) × StandsFor (view value) config) × (number_of world.published ≡ 2 ^ 40)
+IsSpent terms world other = ⊥
+
+-- the caller's step was taken, and then its request was given up
+abbrev pub TookStep : Terms → ℕ → WorldParts → WorldParts → Type 0
+TookStep terms caller world next =
+    (ask : Ask) × (asked_at terms world (slice_get world.callers caller) ≡ Some ask)
+    × (next ≡ given_up caller (with_step terms caller ask world))
+
+-- what is left where an event ends in a fault: the caller's request is given up, and a step that was taken stands; a
+-- deployment leaves the world as it was
+abbrev pub IsLeft : Terms → WorldParts → Event → StepFault → WorldParts → Type 0
+IsLeft terms world (event.Arrive caller request) why next = ⊥
+IsLeft terms world (event.Pick caller) why next = next ≡ given_up caller world
+IsLeft terms world (event.Count caller) fault.Spent next = next ≡ given_up caller world
+IsLeft terms world (event.Count caller) fault.Memory next =
+    (next ≡ given_up caller world) ⊎ TookStep terms caller world next
+IsLeft terms world (event.Done caller) why next = next ≡ given_up caller world
+IsLeft terms world (event.Back caller reply at) why next = next ≡ given_up caller world
+IsLeft terms world (event.Deploy value) why next = next ≡ world

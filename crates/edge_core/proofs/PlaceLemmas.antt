@@ -1,5 +1,5 @@
 -- Places in a list: what is set, and what is looked up.
-use Rattle.std.proofs.Common.{◌≡◌, ℕ, zero, suc, List, [], ◌∷◌, Option, None, Some, slice_get, slice_set, refl, sym, ap}
+use Rattle.std.proofs.Common.{◌≡◌, ℕ, zero, suc, ◌≤◌, length, arith, List, [], ◌∷◌, Option, None, Some, slice_get, slice_set, refl, sym, ap}
 
 -- what is set again, and what was there, in any list
 pub set_again : {A : Type 0} (xs : List A) (k : ℕ) (x y : A) → slice_set (slice_set xs k x) k y ≡ slice_set xs k y
@@ -29,3 +29,17 @@ get_set_other (z ∷ zs) zero zero y other = absurd (other refl)
 get_set_other (z ∷ zs) zero (suc m) y other = refl
 get_set_other (z ∷ zs) (suc k) zero y other = refl
 get_set_other (z ∷ zs) (suc k) (suc m) y other = get_set_other zs k m y (λ is. other (ap suc is))
+
+-- nothing is there beyond the end
+pub get_past : {A : Type 0} (xs : List A) (k : ℕ) → length xs ≤ k → slice_get xs k ≡ None
+get_past [] k past = refl
+get_past (z ∷ zs) zero past = absurd (omega (arith, past))
+get_past (z ∷ zs) (suc k) past = get_past zs k (omega (arith, past))
+
+pub set_beyond : {A : Type 0} (xs : List A) (k : ℕ) (x : A) → length xs ≤ k → slice_set xs k x ≡ xs
+set_beyond xs k x past = set_past xs k x (get_past xs k past)
+
+-- nothing was found, since it is no item
+pub none_of : {A : Type 0} (found : Option A) → ((x : A) → found ≡ Some x → ⊥) → found ≡ None
+none_of None not_some = refl
+none_of (Some x) not_some = absurd (not_some x refl)
