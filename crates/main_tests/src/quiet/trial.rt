@@ -10,13 +10,17 @@ const ONE: &str = "requests 1\npass 1\nblock 0\nchallenge 0\nredirect 0\nfull 0\
 const FORTY: &str =
     "requests 40\npass 34\nblock 6\nchallenge 0\nredirect 0\nfull 0\nsteps 34\nrule fw/b1 6\n";
 
+const TEN_THOUSAND: &str =
+    "requests 10000\npass 8799\nblock 1201\nchallenge 0\nredirect 0\nfull 0\nsteps 8800\nrule fw/b1 1200\nrule rl/l1 1\n";
+
 #[test]
 fn made_requests_are_summed_up(rt: HostRuntime) -> Result<(), Fail> {
     let alloc = rt.alloc();
-    let cases: [(&[&str], &str); 5] = [
+    let cases: [(&[&str], &str); 6] = [
         (&["make", "7", "0", "--run"], NONE),
         (&["make", "7", "1", "--run"], ONE),
         (&["make", "7", "40", "--run"], FORTY),
+        (&["make", "7", "10000", "--run"], TEN_THOUSAND),
         (&["make", "7", "--run", "1"], ONE),
         (&["--run", "make", "--", "7", "1"], ONE),
     ];
