@@ -140,7 +140,7 @@ fn all_of(alloc: Global, senses: Vec<Sense>) -> Result<Option<Values>, Memory>
 }
 
 /// What a call gives, by what its arguments give.
-pub(crate) fn value_of_call(
+pub fn value_of_call(
     alloc: Global,
     id: FunctionId,
     args: Vec<Sense>,

@@ -11,7 +11,7 @@ use sqlite_items::Items;
 use std::alloc::Global;
 
 /// The elements of an array. Takes no memory.
-pub(crate) fn items_in(value: Option<Value>) -> Option<Values>
+pub fn items_in(value: Option<Value>) -> Option<Values>
     ensures { result ≡ option_and_then items_in value }
 {
     match value? {
@@ -21,7 +21,7 @@ pub(crate) fn items_in(value: Option<Value>) -> Option<Values>
 }
 
 /// The element of an array at a place. Takes no memory.
-pub(crate) fn element_at(value: Option<Value>, place: i64) -> Option<Value>
+pub fn element_at(value: Option<Value>, place: i64) -> Option<Value>
     ensures { result ≡ option_and_then (element_at place) value }
 {
     let mut items = items_in(value)?;
@@ -45,7 +45,7 @@ fn texts(alloc: Global, items: &[Text]) -> Result<Value, Memory>
 }
 
 /// The array of a key of a map.
-pub(crate) fn array_at(
+pub fn array_at(
     alloc: Global,
     value: Option<Value>,
     key: &Text,

@@ -7,4 +7,7 @@ mod indexes;
 mod sense;
 mod testing;
 
-pub use evaluator::{eval, is_met};
+pub use calls::value_of_call;
+pub use evaluator::{eval, is_met, tested, value_of_lit};
+pub use indexes::{array_at, element_at, items_in};
+pub use sense::{Given, Sense};

@@ -8,29 +8,29 @@ use list_store::Lists;
 
 /// What a tree is evaluated on.
 #[derive(Clone, Copy)]
-pub(crate) struct Given<'a> {
-    pub(crate) request: &'a Request,
-    pub(crate) reply: Option<&'a Reply>,
-    pub(crate) lists: &'a Lists,
+pub struct Given<'a> {
+    pub request: &'a Request,
+    pub reply: Option<&'a Reply>,
+    pub lists: &'a Lists,
 }
 
 /// What a node gives to the one around it: a value, or, if it is unpacked, the elements of an array.
 #[derive(Drop)]
-pub(crate) enum Sense {
+pub enum Sense {
     Single(Option<Value>),
     Spread(Option<Values>),
 }
 
 impl Sense {
     /// A truth value. Takes no memory.
-    pub(crate) fn of_truth(holds: bool) -> Sense
+    pub fn of_truth(holds: bool) -> Sense
         ensures { seen result ≡ truth holds }
     {
         Sense::Single(Some(Value::Bool(holds)))
     }
 
     /// The value, where a value is wanted. Takes no memory.
-    pub(crate) fn alone(self) -> Option<Value>
+    pub fn alone(self) -> Option<Value>
         ensures { result ≡ alone (seen self) }
     {
         match self {
@@ -40,7 +40,7 @@ impl Sense {
     }
 
     /// Whether it is a truth value, and true. Takes no memory.
-    pub(crate) fn is_true(self) -> bool
+    pub fn is_true(self) -> bool
         ensures { result ≡ is_true (seen self) }
     {
         match self {

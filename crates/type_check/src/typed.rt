@@ -45,4 +45,14 @@ impl Typed {
     {
         &self.lists
     }
+
+    /// The tree with all that was built for it, and the named lists that it may speak of. Takes no memory.
+    pub fn into_parts(self) -> (Boxed<Node>, ListKinds)
+        ensures root { result.0 ≡ self.root }
+        ensures lists { result.1 ≡ self.lists }
+        ensures placed { are_placed result.1 result.0 ≡ true }
+    {
+        let Typed { root, lists, .. } = self;
+        (root, lists)
+    }
 }
