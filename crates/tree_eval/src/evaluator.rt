@@ -50,7 +50,12 @@ fn tests_of(
 }
 
 /// A test of what an operand gives: of a missing value it is false, and of an unpacked array it is the array of tests.
-pub fn tested(alloc: Global, given: &Given<'_>, test: &BuiltTest, of: Sense) -> Result<Sense, Memory>
+pub fn tested(
+    alloc: Global,
+    given: &Given<'_>,
+    test: &BuiltTest,
+    of: Sense,
+) -> Result<Sense, Memory>
     requires { is_placed (list_kinds_of given.now.lists.now) test.now ≡ true }
     ensures { IfOk result (λ found. InEachOf given.now (λ s. seen found ≡ tested s (test_of test.now) (seen of))) }
 {

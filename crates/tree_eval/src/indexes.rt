@@ -45,11 +45,7 @@ fn texts(alloc: Global, items: &[Text]) -> Result<Value, Memory>
 }
 
 /// The array of a key of a map.
-pub fn array_at(
-    alloc: Global,
-    value: Option<Value>,
-    key: &Text,
-) -> Result<Option<Value>, Memory>
+pub fn array_at(alloc: Global, value: Option<Value>, key: &Text) -> Result<Option<Value>, Memory>
     ensures { IfOk result (λ found. found ≡ option_and_then (array_at key.now) value) }
 {
     let Some(Value::Map(entries)) = value else {
