@@ -1,0 +1,6 @@
+pub mod CodeLemmas
+pub mod ParityLemmas
+pub mod PartLemmas
+pub mod PlacedLemmas
+pub mod RunLemmas
+pub mod SlotLemmas
