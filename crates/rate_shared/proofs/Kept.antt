@@ -493,6 +493,8 @@ draws_entry shape slots id me lane caller ask entry some_lane turn none_kept of_
     subst (λ (z : Shape). Shows z r.history me.0.known) (sym is) record { seen = was.known.seen; legal = r.legal; own = λ k a b. (was.known.owned k a b).1 },
     sym r.long,
     subst (λ (z : Shape). IsLegal z.lanes z.cap (r.history ++ entry ∷ [])) (sym is) (legal_more shape.lanes shape.cap r.history entry r.legal follows),
+    subst (λ (z : Shape). All (λ e. e.caller < z.callers) (r.history ++ entry ∷ [])) (sym is)
+        (All-push (λ (e : Entry). e.caller < shape.callers) r.history entry r.by_callers (omega (arith, by, high, was.known.within))),
   ),
 )
   where

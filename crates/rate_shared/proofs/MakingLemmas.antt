@@ -2,7 +2,9 @@
 use Rattle.std.proofs.Common.{◌≡◌, ◌⊎◌, ℕ, ◌+◌, ◌<◌, ◌≤◌, ◌^◌, List, [], ◌∷◌, ◌++◌, length, get_or, inl, inr, refl, sym, ap, ◌∙◌, subst, arith}
 use Rattle.std.proofs.lemmas.Bool.{cases_lt}
 use Rattle.std.proofs.lemmas.List.{get_or_append_left, get_or_push, length_push}
+use Rattle.std.proofs.lemmas.List.Elements.{All-nil}
 use Rattle.atomic_table.specs.Seated.{TableId}
+use Rattle.rate_plain.specs.declared.entry.Entry.{Entry}
 use Rattle.rate_plain.proofs.LegalLemmas.{legal_none}
 use Rattle.rate_shared.specs.declared.rule.Shape.{Shape}
 use Rattle.rate_shared.specs.declared.rule.View.{View}
@@ -26,5 +28,8 @@ all_open_push table shape seens seen all one k d below = by (cases_lt k (length 
 pub opens_ready : (shape : Shape) (caller to : ℕ) (old : Sat) (seat : Chair) → old ≡ (knowing shape caller to [], []) → seat.me ≡ (numbered old.0, []) → IsShape shape → caller < shape.callers
     → (seat.me ≡ resting shape caller []) × IsReady seat caller 0
 opens_ready shape caller to old seat was now fits number =
-    let is : seat.me ≡ resting shape caller [] = now ∙ ap (λ (m : Sat). let m' : Sat = (numbered m.0, []) in m') was in
-    (is, is_ready shape caller 0 fits number (omega arith) seat [] is (legal_none shape.lanes shape.cap) refl)
+    let is : seat.me ≡ resting shape caller [] = now ∙ ap (λ (m : Sat). let m' : Sat = (numbered m.0, []) in m') was in (
+      is,
+      is_ready shape caller 0 fits number (omega arith) seat [] is (legal_none shape.lanes shape.cap)
+          (All-nil (λ (entry : Entry). entry.caller < shape.callers)) refl,
+    )

@@ -27,12 +27,14 @@ keeping shape caller seen kept = (record (knowing shape caller (caller + 1) seen
 
 -- a caller's seat, by its parts
 module _ (shape : Shape) (caller taken : ℕ) (fits : IsShape shape) (number : caller < shape.callers) (few : taken ≤ 2 ^ 40) where
-  pub is_ready : (seat : Chair) (seen : List Entry) → seat.me ≡ resting shape caller seen → IsLegal shape.lanes shape.cap seen → taken ≡ length (own_of seen caller) → IsReady seat caller taken
-  is_ready seat seen is legal its =
+  pub is_ready : (seat : Chair) (seen : List Entry) → seat.me ≡ resting shape caller seen → IsLegal shape.lanes shape.cap seen → All (λ entry. entry.caller < shape.callers) seen
+      → taken ≡ length (own_of seen caller) → IsReady seat caller taken
+  is_ready seat seen is legal by_callers its =
       let shape_is : shape ≡ seat.me.0.shape = sym (ap (λ (m : Sat). m.0.shape) is) in
       let seen_is : seen ≡ seen_of seat.me = sym (ap seen_of is) in record {
         idle = is ∙ (λ i. resting (shape_is i) caller (seen_is i));
         legal = subst (λ (z : Shape × List Entry). IsLegal z.0.lanes z.0.cap z.1) (λ i. (shape_is i, seen_is i)) legal;
+        by_callers = subst (λ (z : Shape × List Entry). All (λ entry. entry.caller < z.0.callers) z.1) (λ i. (shape_is i, seen_is i)) by_callers;
         its = its ∙ ap (λ h. length (own_of h caller)) seen_is;
         few = few;
         shape = subst IsShape shape_is fits;
@@ -46,7 +48,6 @@ pub record Looked (shape : Shape) (caller taken n : ℕ) (seen : List Entry) (kn
   pub grows : Grows shape caller seen (seen_of new.me)
   pub long : n ≡ length (seen_of new.me)
   pub kept : All (Shows shape (seen_of new.me)) known
-  pub by_callers : All (λ entry. entry.caller < shape.callers) (seen_of new.me)
 
 pub looked : (shape : Shape) (caller taken n : ℕ) (seen : List Entry) (kept : List Known) (old : Sat) (new : Chair) → old ≡ keeping shape caller seen kept
     → IsShape shape → caller < shape.callers → taken ≤ 2 ^ 40 → taken ≡ length (own_of seen caller) → Saw old n new.me → Looked shape caller taken n seen kept new
@@ -55,13 +56,13 @@ looked shape caller taken n seen kept old new was fits number few its looks =
     let is : new.me ≡ resting shape caller history = looks.1 ∙ ap (λ (m : Sat). let m' : Sat = (seeing m.0 history, m.1) in m') was in
     let seen_is : history ≡ seen_of new.me = sym (ap seen_of is) in
     let told : Shows shape history (known_by caller seen) = subst (λ (m : Sat). Shows m.0.shape history m.0.known) was looks.2 in
+    let by_callers : All (λ entry. entry.caller < shape.callers) history = subst (λ (m : Sat). All (λ entry. entry.caller < m.0.shape.callers) history) was looks.5 in
     let own : own_of history caller ≡ own_of seen caller = told.own caller (le_refl caller) (omega arith) in record {
-      ready = is_ready shape caller taken fits number few new history is told.legal (its ∙ ap length (sym own));
+      ready = is_ready shape caller taken fits number few new history is told.legal by_callers (its ∙ ap length (sym own));
       shape_is = ap (λ (m : Sat). m.0.shape) is;
-      grows = subst (Grows shape caller seen) seen_is record { seen = told.seen; legal = told.legal; own = own };
+      grows = subst (Grows shape caller seen) seen_is record { seen = told.seen; legal = told.legal; by_callers = by_callers; own = own };
       long = sym looks.4 ∙ ap length seen_is;
       kept = subst (λ (h : List Entry). All (Shows shape h) kept) seen_is (subst (λ (m : Sat). All (Shows m.0.shape history) m.0.kept) was looks.3);
-      by_callers = subst (λ (h : List Entry). All (λ entry. entry.caller < shape.callers) h) seen_is (subst (λ (m : Sat). All (λ entry. entry.caller < m.0.shape.callers) history) was looks.5);
     }
 
 module _ (old new : Chair) (caller taken : ℕ) (ready : IsReady old caller taken) (idle : new.me ≡ resting old.me.0.shape caller (seen_of new.me)) where
@@ -70,14 +71,15 @@ module _ (old new : Chair) (caller taken : ℕ) (ready : IsReady old caller take
   counted_ready ask c room counts =
       let own : own_of (seen_of new.me) caller ≡ own_of (seen_of old.me) caller ++ counts.entry ∷ [] =
       ap (λ h. own_of h caller) counts.grown ∙ own_with counts.between counts.entry caller counts.its ∙ ap (λ es. es ++ counts.entry ∷ []) counts.own in
-      is_ready old.me.0.shape caller (taken + 1) ready.shape ready.number (omega arith) new (seen_of new.me) idle counts.legal
+      is_ready old.me.0.shape caller (taken + 1) ready.shape ready.number (omega arith) new (seen_of new.me) idle counts.legal counts.by_callers
       (omega (arith, ready.its, ap length own, length_push (own_of (seen_of old.me) caller) counts.entry))
 
   -- after a refusal
   pub refused_ready : seen_of new.me ≡ seen_of old.me → IsReady new caller taken
   refused_ready same =
       is_ready old.me.0.shape caller taken ready.shape ready.number ready.few new (seen_of new.me) idle
-      (subst (IsLegal old.me.0.shape.lanes old.me.0.shape.cap) (sym same) ready.legal) (ready.its ∙ ap (λ h. length (own_of h caller)) (sym same))
+      (subst (IsLegal old.me.0.shape.lanes old.me.0.shape.cap) (sym same) ready.legal)
+      (subst (All (λ (entry : Entry). entry.caller < old.me.0.shape.callers)) (sym same) ready.by_callers) (ready.its ∙ ap (λ h. length (own_of h caller)) (sym same))
 
 -- a caller that has taken a lane out
 module _ (s0 s1 s2 : Chair) (caller taken lane : ℕ) (x : Lane) (ready : IsReady s0 caller taken) (took : s1.me.0 ≡ turned s0.me.0 (turn_word lane) s1.me.0.mine) (out : s2.me ≡ (s1.me.0, (lane, None) ∷ [])) where
@@ -97,6 +99,7 @@ module _ (s0 s1 s2 : Chair) (caller taken lane : ℕ) (x : Lane) (ready : IsRead
         out = ap (λ (m : Sat). m.1) out;
         hand = (hand.0 ∙ sym (ap (λ (m : Sat). m.0.shape.cap) out), subst (IsLaneOf x) mine hand.1);
         legal = subst (λ (z : Shape × List Entry). IsLegal z.0.lanes z.0.cap z.1) (λ i. (sym held_shape i, sym held_seen i)) ready.legal;
+        by_callers = subst (λ (z : Shape × List Entry). All (λ entry. entry.caller < z.0.callers) z.1) (λ i. (sym held_shape i, sym held_seen i)) ready.by_callers;
         its = ready.its ∙ ap (λ h. length (own_of h caller)) (sym held_seen);
         few = ready.few;
         shape = subst IsShape (sym held_shape) ready.shape;
@@ -121,4 +124,4 @@ module _ (s0 s1 s2 : Chair) (caller taken lane : ℕ) (x : Lane) (held : IsHeld 
       gave ∙ ap (λ (m : Sat). let m' : Sat = (turned m.0 0 [], []) in m') back ∙ ap (λ (v : View). let m' : Sat = (turned v 0 [], []) in m') held.view
 
   pub released_ready : s2.me ≡ (turned s1.me.0 0 [], []) → IsReady s2 caller taken
-  released_ready gave = is_ready s0.me.0.shape caller taken held.shape held.by held.few s2 (seen_of s0.me) (released gave) held.legal held.its
+  released_ready gave = is_ready s0.me.0.shape caller taken held.shape held.by held.few s2 (seen_of s0.me) (released gave) held.legal held.by_callers held.its

@@ -1,5 +1,5 @@
 -- What a whole step leaves of a seat, and what it tells.
-use Rattle.std.proofs.Common.{◌≡◌, ℕ, ◌+◌, ◌<◌, ◌≤◌, List, [], ◌∷◌, ◌++◌, length, MatchResult, refl, sym, ap, ◌∙◌, subst, le_refl, arith, Option}
+use Rattle.std.proofs.Common.{◌≡◌, ℕ, ◌+◌, ◌<◌, ◌≤◌, List, [], ◌∷◌, ◌++◌, All, length, MatchResult, refl, sym, ap, ◌∙◌, subst, le_refl, arith, Option}
 use Rattle.std.specs.declared.result.Result.{Result}
 use Rattle.std.specs.declared.result.Result.TheVariants.{Ok, Err}
 use Rattle.std.proofs.lemmas.List.{length_push}
@@ -40,6 +40,7 @@ module _ (shape : Shape) (caller lane : ℕ) (seen : List Entry) (m2 m3 m5 : Sat
       let shape_is : m2.0.shape ≡ shape = ap (λ (v : View). v.shape) view in
       let shows : Shows shape between record { from = caller; to = caller + 1; seen = seen } = subst (λ (z : Shape × Known). Shows z.0 between z.1) (λ i. (shape_is i, known i)) drew.2 in
       let legal : IsLegal shape.lanes shape.cap (between ++ entry ∷ []) = subst (λ (z : Shape). IsLegal z.lanes z.cap (between ++ entry ∷ [])) shape_is drew.4 in
+      let by_callers : All (λ e. e.caller < shape.callers) (between ++ entry ∷ []) = subst (λ (z : Shape). All (λ e. e.caller < z.callers) (between ++ entry ∷ [])) shape_is drew.5 in
       record {
         between = between;
         entry = entry;
@@ -47,6 +48,7 @@ module _ (shape : Shape) (caller lane : ℕ) (seen : List Entry) (m2 m3 m5 : Sat
         seen = shows.seen;
         own = shows.own caller (le_refl caller) (omega arith);
         legal = subst (IsLegal shape.lanes shape.cap) (sym grown) legal;
+        by_callers = subst (All (λ (e : Entry). e.caller < shape.callers)) (sym grown) by_callers;
         its = refl;
         asked = refl;
         answer = answer;

@@ -1,5 +1,5 @@
 -- What a seat has between the calls of one step.
-use Rattle.std.specs.Prelude.{◌≡◌, ℕ, ◌+◌, ◌^◌, ◌<◌, ◌≤◌, List, [], ◌∷◌, length, Option, Some, None}
+use Rattle.std.specs.Prelude.{◌≡◌, ℕ, ◌+◌, ◌^◌, ◌<◌, ◌≤◌, List, [], ◌∷◌, All, length, Option, Some, None}
 use Rattle.atomic_table.specs.Seated.{TableId}
 use Rattle.atomic_table.specs.declared.shared.Seat.{Seat}
 use Rattle.rate_plain.specs.Keys.{lane_of_key}
@@ -49,6 +49,7 @@ seen_of me = me.0.known.seen
 pub record IsReady (seat : Chair) (caller taken : ℕ) : Type 0 where
   pub idle : seat.me ≡ resting seat.me.0.shape caller (seen_of seat.me)
   pub legal : IsLegal seat.me.0.shape.lanes seat.me.0.shape.cap (seen_of seat.me)
+  pub by_callers : All (λ entry. entry.caller < seat.me.0.shape.callers) (seen_of seat.me)
   pub its : taken ≡ length (own_of (seen_of seat.me) caller)
   pub few : taken ≤ 2 ^ 40
   pub shape : IsShape seat.me.0.shape
@@ -90,6 +91,7 @@ pub record IsHeld (seat : Chair) (caller taken number : ℕ) (lane : Lane) : Typ
   pub out : seat.me.1 ≡ (lane_slot number, None) ∷ []
   pub hand : IsInHand seat.me.0.shape lane seat.me.0.mine
   pub legal : IsLegal seat.me.0.shape.lanes seat.me.0.shape.cap (seen_of seat.me)
+  pub by_callers : All (λ entry. entry.caller < seat.me.0.shape.callers) (seen_of seat.me)
   pub its : taken ≡ length (own_of (seen_of seat.me) caller)
   pub few : taken ≤ 2 ^ 40
   pub shape : IsShape seat.me.0.shape

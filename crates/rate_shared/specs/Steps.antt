@@ -60,6 +60,7 @@ abbrev pub Drew : Entry → Sat → ℕ → Sat → Type 0
 Drew entry m n m' =
     (between : List Entry) × (m' ≡ (drawn m.0 between entry, m.1)) × Shows m.0.shape between m.0.known × (length between ≡ n)
     × IsLegal m.0.shape.lanes m.0.shape.cap (between ++ entry ∷ [])
+    × All (λ e. e.caller < m.0.shape.callers) (between ++ entry ∷ [])
 
 abbrev pub Draws : Entry → At → Sat → ℕ → Sat → Type 0
 Draws entry st m n m' = Drew entry m n m'

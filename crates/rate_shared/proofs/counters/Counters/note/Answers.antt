@@ -22,4 +22,4 @@ returns-clause-grows c =
     let same = c.split_seat-seat.ensures.2 in
     let all = seen_of s.seat.me in
     subst (λ z. Grows z s.caller all (seen_of c.split_seat-seat.new.seat.me)) c.requires.of.1
-    (subst (Grows s.seat.me.0.shape s.caller all) (sym (ap seen_of same)) record { seen = prefix_self all; legal = s.ready.legal; own = refl })
+    (subst (Grows s.seat.me.0.shape s.caller all) (sym (ap seen_of same)) record { seen = prefix_self all; legal = s.ready.legal; by_callers = s.ready.by_callers; own = refl })
