@@ -11,4 +11,4 @@ mod stepping;
 pub use desk::{DeployFault, Desk};
 pub use gate::Gate;
 pub use passes::{Answered, Finished, Pass, Passes};
-pub use sharing::gates_are_shared;
+pub use sharing::{gates_are_shared, passes_are_sent};
