@@ -28,7 +28,7 @@ number_read {E} most word r n parses is written low =
     let read : valued_as most word n ≡ Some n = rw (written, low) refl in
     sym (ap (valued_as most word) valued ∙ read)
 
-both_true : (a b : Bool) → (a && b) ≡ true → (a ≡ true) × (b ≡ true)
+pub both_true : (a b : Bool) → (a && b) ≡ true → (a ≡ true) × (b ≡ true)
 both_true true true is = (refl, refl)
 both_true true false is = absurd cc
 both_true false b is = absurd cc

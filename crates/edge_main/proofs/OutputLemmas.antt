@@ -49,7 +49,7 @@ pub opening_fine : IsFineAt opening
 opening_fine = λ k d below. absurd (omega (arith, below))
 
 -- those of a document that is taken
-taken_fine : (value : Data) (config : ConfigParts) → IsTaken value config → AreFineBefore config.lists (length config.lists)
+pub taken_fine : (value : Data) (config : ConfigParts) → IsTaken value config → AreFineBefore config.lists (length config.lists)
 taken_fine value config taken =
     subst (λ (parts : List ListPart). AreFineBefore parts (length parts)) (sym (ap (λ (d : ConfigData). d.lists) taken.reads.1))
     (document_fine value taken.reads.0)

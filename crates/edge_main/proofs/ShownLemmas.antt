@@ -88,7 +88,7 @@ module _ (law : LegalStepByStep) where
   backed_steps listed config one (Some used) history = talked_steps (backing listed config one used.0 used.1) history
 
   -- ---- a line, and a run
-  line_steps : (s : RunState) (given : List ℕ) (this : Answered) → IsAnswered s given this → AreSteps s.history this.after.history (steps_in this.kind)
+  pub line_steps : (s : RunState) (given : List ℕ) (this : Answered) → IsAnswered s given this → AreSteps s.history this.after.history (steps_in this.kind)
   line_steps s given this (answered.blank h p) = subst (λ (t : Answered). AreSteps s.history t.after.history (steps_in t.kind)) (sym p) (no_steps s.history)
   line_steps s given this (answered.bad why h p) = subst (λ (t : Answered). AreSteps s.history t.after.history (steps_in t.kind)) (sym p) (no_steps s.history)
   line_steps s given this (answered.deployment value config h e p) =

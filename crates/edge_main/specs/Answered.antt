@@ -69,7 +69,7 @@ pub record Answered : Type 0 where
   pub before : RunState
   pub after : RunState
 
-abbrev answered_as : LineKind → RunState → RunState → Answered
+abbrev pub answered_as : LineKind → RunState → RunState → Answered
 answered_as kind before after = record { kind = kind; text = written_for kind; before = before; after = after }
 
 -- a blank line

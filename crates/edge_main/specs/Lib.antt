@@ -1,8 +1,10 @@
 pub mod Answered
+pub mod Batched
 pub mod CheckEnded
 pub mod Checked
 pub mod Commands
 pub mod Counting
+pub mod Crewed
 pub mod Document
 pub mod Ended
 pub mod Making
@@ -11,9 +13,14 @@ pub mod RunFaults
 pub mod Running
 pub mod Shown
 pub mod Spent
+pub mod Spread
+pub mod SpreadEnded
+pub mod Spreading
 pub mod Statuses
 pub mod Stepping
 pub mod Summary
 pub mod Summing
 pub mod Tried
 pub mod Trying
+pub mod WaitCommands
+pub mod Working

@@ -1,6 +1,6 @@
 //! A request of a trace and its reply, as their line tells of them.
 
-ghost use Rattle.std.specs.Prelude.{◌≡◌, Err, IfOk};
+ghost use Rattle.std.specs.Prelude.{◌≡◌, None, Err, IfOk};
 ghost use Rattle.std.specs.Arc.{arc_value};
 ghost use Rattle.judge_core.specs.Values.{Listed, AreTold};
 ghost use Rattle.edge_main.specs.Answered.{reply_used};
@@ -24,8 +24,28 @@ pub struct Followed {
     pub headers: Option<(Headers, Headers)>,
 }
 
+impl Followed {
+    /// Without a reply.
+    pub fn alone(judged: Judged) -> Followed
+        ensures verdict { result.verdict ≡ judged.verdict }
+        ensures request { result.request ≡ judged.request }
+        ensures headers { result.headers ≡ None }
+    {
+        let Judged {
+            verdict,
+            request,
+            ..
+        } = judged;
+        Followed {
+            verdict,
+            request,
+            headers: None,
+        }
+    }
+}
+
 /// The reply that is judged: one that was recorded, where the verdict is pass.
-fn reply_used(kind: &VerdictKind, recorded: Option<(Reply, Moment)>) -> Option<(Reply, Moment)>
+pub fn reply_used(kind: &VerdictKind, recorded: Option<(Reply, Moment)>) -> Option<(Reply, Moment)>
     ensures { result ≡ reply_used kind.now recorded }
 {
     match kind {
@@ -49,16 +69,7 @@ fn follow(
     ensures spent { result ≡ Err StepFault.Spent → SpendsOnUsed listed judged used counter.old }
 {
     let Some((reply, at)) = used else {
-        let Judged {
-            verdict,
-            request,
-            ..
-        } = judged;
-        return Ok(Followed {
-            verdict,
-            request,
-            headers: None,
-        });
+        return Ok(Followed::alone(judged));
     };
     let before = copy_headers(alloc, reply.headers.as_slice())?;
     let verdict = judged.verdict.copy(alloc)?;

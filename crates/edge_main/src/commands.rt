@@ -20,7 +20,7 @@ pub enum Command {
 }
 
 /// Whether a word begins with `-`.
-fn is_dashed(word: &[u8]) -> bool
+pub fn is_dashed(word: &[u8]) -> bool
     ensures { result ≡ is_dashed word.now }
 {
     match word {
@@ -38,7 +38,7 @@ fn is_written(number: u64, word: &[u8]) -> bool
 }
 
 /// The number, at most so great, that a word is in decimal, without a sign and without zeros before it.
-fn number_of(most: u64, word: &str) -> Option<u64>
+pub fn number_of(most: u64, word: &str) -> Option<u64>
     ensures number { result ≡ number_of most word.now }
     ensures within { IfSome result (λ number. number ≤ most) }
 {

@@ -1,5 +1,7 @@
 ghost use Rattle.edge_main.specs.Output.{RunsAreUnique, OutputsAreUnique, EveryInputHasAnOutput};
 ghost use Rattle.edge_main.specs.Shown.{PositionsAreInOrder, HistoryIsLegal, ShownIsJudged};
+ghost use Rattle.edge_main.specs.Spread.{OutputsAreSpreads};
+ghost use Rattle.edge_main.specs.WaitCommands.{WaitingHasItsWord, QuietHasNoSuchWord};
 
 use config_read::{built_configurations_are_their_data, first_refusal_is_one};
 use rate_plain::history_is_legal_step_by_step;
@@ -36,4 +38,16 @@ pub fn history_is_legal()
 /// The answers that a line shows are those by which its request was judged.
 pub fn shown_is_judged()
     ensures { ShownIsJudged }
+{}
+
+/// Each output of one thread is one of several workers.
+pub fn outputs_are_spreads()
+    ensures { OutputsAreSpreads }
+{
+    history_is_legal_step_by_step();
+}
+/// A command that waits has a word that tells so, and a command that waits for nobody has none.
+pub fn waiting_is_told_by_a_word()
+    ensures waiting { WaitingHasItsWord }
+    ensures quiet { QuietHasNoSuchWord }
 {}

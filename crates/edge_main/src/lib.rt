@@ -2,8 +2,10 @@
 #![tactic(auto)]
 
 mod asking;
+mod batch;
 mod checking;
 mod commands;
+mod crew;
 mod document;
 mod hashers;
 mod kept;
@@ -12,15 +14,21 @@ mod making;
 mod quiet;
 mod replay;
 mod run;
+mod spreading;
 mod statuses;
 mod stepping;
 mod summary;
 mod trial;
+mod waiting;
+mod waiting_words;
+mod working;
 
 pub use hashers::lane_hashers;
 pub use laws::{
-    every_input_has_an_output, history_is_legal, outputs_are_unique, runs_are_unique,
-    shown_is_judged,
+    every_input_has_an_output, history_is_legal, outputs_are_spreads, outputs_are_unique,
+    runs_are_unique, shown_is_judged, waiting_is_told_by_a_word,
 };
 pub use quiet::edge_quiet;
 pub use statuses::Status;
+pub use waiting::edge_wait;
+pub use waiting_words::{needs_wait, waiting_of};

@@ -16,7 +16,7 @@ use std::alloc::Global;
 use std::hash::RandomState;
 
 /// Tells the operator how a run ended; a fault of this changes nothing.
-fn tell<E: Sink>(status: Status, said: &mut E)
+pub fn tell<E: Sink>(status: Status, said: &mut E)
     ensures { Says E.faults E.got said.old said.new (said_of status) }
 {
     let _ = write_all(said, status.said());

@@ -41,7 +41,7 @@ pub enum RunFault {
 
 impl RunFault {
     /// How a run ends that this has ended.
-    fn status(self) -> Status
+    pub fn status(self) -> Status
         ensures { result ≡ status_of self }
     {
         match self {
@@ -78,7 +78,7 @@ impl From<StepFault> for RunFault {
 }
 
 /// Writes what is pending, where it is due or enough for a piece.
-fn write_piece<K: Sink>(pending: &mut TextBuilder, due: bool, out: &mut K) -> Result<(), Failed>
+pub fn write_piece<K: Sink>(pending: &mut TextBuilder, due: bool, out: &mut K) -> Result<(), Failed>
     ensures due { OnOk result (IsTrue due → pending.new ≡ []) }
     ensures ok { OnOk result (WrotePending (K.got out.old) (K.got out.new) pending.old pending.new) }
     ensures err { OnErr result ((count : ℕ) × Appends (K.got out.old) (K.got out.new) (take count pending.old)) }

@@ -43,7 +43,7 @@ pub struct Run {
 }
 
 /// Adds the line of a deployment that is refused.
-fn push_refused_deploy(out: &mut TextBuilder, place: &[u8], cause: Cause) -> Result<(), Memory>
+pub fn push_refused_deploy(out: &mut TextBuilder, place: &[u8], cause: Cause) -> Result<(), Memory>
     ensures { OnOk result (out.new ≡ out.old ++ refused_deploy_line place.now (cause_name cause)) }
 {
     out.push(b"deploy ")?;

@@ -1,4 +1,4 @@
-use Rattle.std.proofs.Common.{◌∙◌, None, Some, refl, subst, sym}
+use Rattle.std.proofs.Common.{◌∙◌, None, Some, subst, sym}
 use Rattle.std.specs.Arc.{arc_value}
 use Rattle.judge_core.specs.Stands.{judgement_of}
 use Rattle.edge_main.specs.Spent.{IsSpentBack}
@@ -9,13 +9,16 @@ use Rattle.edge_main.proofs.asking.follow.Goals as goal
 
 pub returns-in_default-clause-follows : goal.returns-in_default-clause-follows
 returns-in_default-clause-follows g c history counts = record {
-  verdict = refl;
-  request = refl;
+  verdict = c.alone.ensures.verdict;
+  request = c.alone.ensures.request;
   backed =
       subst
+      (λ headers. IsBackedAs (back_for g.listed c.args.judged c.args.used history) c.args.shown.now c.args.counter.now c.args.shown.now headers)
+      (sym c.alone.ensures.headers)
+      (subst
       (λ used. IsBackedAs (back_for g.listed c.args.judged used history) c.args.shown.now c.args.counter.now c.args.shown.now None)
       (sym c.in_default.is)
-      (backed_none g.listed (arc_value c.args.judged.config) (judgement_of c.args.judged) c.args.shown.now c.args.counter.now history counts);
+      (backed_none g.listed (arc_value c.args.judged.config) (judgement_of c.args.judged) c.args.shown.now c.args.counter.now history counts));
 }
 
 pub returns-clause-follows : goal.returns-clause-follows
