@@ -5,24 +5,30 @@
 # list of 50,000 blocks; limit: one limit for each of 10,000 addresses; made: what `edge make 7 LINES` writes.
 # usage: bench/replay.sh [LINES [INPUT ..]]     needs: the built program, cargo, python3 and Debian's librust-serde-json-dev
 # Prints for each input and program the best and the median of five runs, and the ratio of the two; the outputs are compared.
+# WORKERS=1,2,4 bench/replay.sh .. measures `edge replay` beside itself with so many workers instead, which needs no plain Rust.
 set -eu
 here=$(cd "$(dirname "$0")" && pwd)
 edge=$here/../crates/edge/out/edge
 lines=${1:-1000000}
 registry=${CARGO_REGISTRY_DIR:-/usr/share/cargo/registry}
-for tool in cargo python3 cmp; do
+plain=$here/plain/target/release/plain
+tools="python3 cmp"
+[ -n "${WORKERS:-}" ] || tools="cargo $tools"
+for tool in $tools; do
   command -v "$tool" >/dev/null || { echo "bench: no $tool here; left out"; exit 0; }
 done
 [ -x "$edge" ] || { echo "bench: the program isn't built; left out"; exit 0; }
-[ -d "$registry/serde_json-1.0.87" ] || ls -d "$registry"/serde_json-* >/dev/null 2>&1 || { echo "bench: no packaged serde_json here; left out"; exit 0; }
-
-(cd "$here/plain" && cargo build --release --offline --quiet \
-  --config 'source.crates-io.replace-with="packaged"' \
-  --config "source.packaged.directory=\"$registry\"")
-plain=$here/plain/target/release/plain
 mkdir -p "$here/out"
 
+if [ -z "${WORKERS:-}" ]; then
+  ls -d "$registry"/serde_json-* >/dev/null 2>&1 || { echo "bench: no packaged serde_json here; left out"; exit 0; }
+  (cd "$here/plain" && cargo build --release --offline --quiet \
+    --config 'source.crates-io.replace-with="packaged"' \
+    --config "source.packaged.directory=\"$registry\"")
+fi
+
 inputs="${*:2}"
+[ -n "$inputs" ] || [ -z "${WORKERS:-}" ] || inputs="path mixed1000 limit"
 [ -n "$inputs" ] || inputs="path three hundred mixed100 mixed1000 list limit made"
 
 python3 - "$lines" "$here/out" $inputs <<'P'
@@ -118,7 +124,11 @@ def peak_of(pid):
         pass
     return 0
 
+workers = [count for count in os.environ.get('WORKERS', '').split(',') if count]
 programs = {'edge': [edge, 'replay'], 'plain': [plain] + word}
+if workers:
+    programs = {'edge': [edge, 'replay']}
+    programs.update({'edge-' + count: [edge, 'replay', '--workers', count] for count in workers})
 runs = {name: [] for name in programs}
 for _ in range(5):
     for name, words in programs.items():
@@ -128,10 +138,17 @@ for name in programs:
     cpu = sorted(r[1] for r in runs[name])
     print('%-6s best %.0f lines/s, median %.0f lines/s, CPU %.2f us/line (best), peak %d KiB, status %d' % (
         name, lines / took[0], lines / statistics.median(took), 1e6 * cpu[0] / lines, max(r[2] for r in runs[name]), runs[name][0][3]))
-best = min(r[0] for r in runs['plain']) / min(r[0] for r in runs['edge'])
-median = statistics.median(r[0] for r in runs['plain']) / statistics.median(r[0] for r in runs['edge'])
-print('ratio  best %.2f, median %.2f (above 1: edge is faster)' % (best, median))
+
+def ratio(slow, fast):
+    times = {name: [r[0] for r in runs[name]] for name in (slow, fast)}
+    return '%.2f, median %.2f' % (min(times[slow]) / min(times[fast]), statistics.median(times[slow]) / statistics.median(times[fast]))
+
+for count in workers:
+    print('ratio  best %s (above 1: %s workers are faster than one thread)' % (ratio('edge', 'edge-' + count), count))
+if not workers:
+    print('ratio  best %s (above 1: edge is faster)' % ratio('plain', 'edge'))
 P
+  [ -z "${WORKERS:-}" ] || return 0
   cmp "$here/out/edge.out" "$here/out/plain.out" && echo "the outputs are equal"
 }
 

@@ -1,18 +1,26 @@
-//! The program `edge`: it makes the real streams and hashers, and calls the top call.
+//! The program `edge`: it makes the real streams and hashers, and calls one top call.
 #![tactic(auto)]
+
+ghost use Rattle.std.specs.Prelude.{◌≡◌, vec_len};
 
 #[cfg(test)]
 mod tests;
 
 use edge_base::Memory;
-use edge_main::{Status, edge_quiet, lane_hashers};
-use edge_outside::{Sink, Source, StderrSink, StdinSource, StdoutSink, write_all};
+use edge_main::{Status, edge_quiet, edge_wait, lane_hashers, needs_wait};
+use edge_outside::{
+    EchoOrigin, ListClock, MemoryDoor, OpenTurnstile, Sink, Source, StderrSink, StdinSource,
+    StdoutSink, write_all,
+};
 use std::alloc::Global;
 use std::env;
+use std::hash::RandomState;
 use std::io::ErrorKind;
 use std::process::ExitCode;
 use std::random::RandomSource;
 use std::rt::Env;
+use std::sync::Wait;
+use std::thread::Threads;
 
 /// The words behind the program's name. Words that aren't UTF-8 are no command, as no words are.
 fn words<R: Env + AllocGlobal>(rt: &R) -> Result<Vec<String>, Memory> {
@@ -38,8 +46,39 @@ fn borrowed(alloc: Global, words: &[String]) -> Result<Vec<&str>, Memory> {
     Ok(borrowed)
 }
 
+/// Runs a command that waits. `replay` by several workers opens no door, so it is handed none, and no origin and no clock.
+fn run_waiting<R: Threads + Wait + Sync, S: Source, K: Sink, E: Sink>(
+    rt: &R,
+    alloc: Global,
+    words: &[&str],
+    input: &mut S,
+    out: &mut K,
+    said: &mut E,
+    hashers: Vec<RandomState>,
+) -> Status
+    requires { vec_len hashers ≡ 64 }
+{
+    let mut doors: Vec<MemoryDoor> = Vec::new(alloc);
+    let origins: Vec<EchoOrigin> = Vec::new(alloc);
+    let clocks: Vec<ListClock> = Vec::new(alloc);
+    edge_wait(
+        rt,
+        alloc,
+        words,
+        input,
+        out,
+        said,
+        &mut doors,
+        &mut None,
+        origins,
+        clocks,
+        &OpenTurnstile,
+        hashers,
+    )
+}
+
 /// Runs the command that the words name. Random keys that can't be had are answered as memory that can't.
-fn run<R: Env + RandomSource + AllocGlobal, S: Source, K: Sink, E: Sink>(
+fn run<R: Env + RandomSource + AllocGlobal + Threads + Wait + Sync, S: Source, K: Sink, E: Sink>(
     rt: &R,
     input: &mut S,
     out: &mut K,
@@ -51,7 +90,12 @@ fn run<R: Env + RandomSource + AllocGlobal, S: Source, K: Sink, E: Sink>(
     let Ok(hashers) = lane_hashers(rt, alloc) else {
         return Err(Memory);
     };
-    Ok(edge_quiet(alloc, words.as_slice(), input, out, said, hashers))
+    let words = words.as_slice();
+    if needs_wait(words) {
+        Ok(run_waiting(rt, alloc, words, input, out, said, hashers))
+    } else {
+        Ok(edge_quiet(alloc, words, input, out, said, hashers))
+    }
 }
 
 fn main(rt: HostRuntime) -> ExitCode {

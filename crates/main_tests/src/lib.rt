@@ -4,3 +4,7 @@
 
 #[cfg(test)]
 mod quiet;
+#[cfg(test)]
+mod spread;
+#[cfg(test)]
+mod waiting;

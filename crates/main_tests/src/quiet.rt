@@ -16,14 +16,15 @@ mod limits;
 mod making;
 mod rows;
 mod trial;
+mod waiting;
 
-const DEPLOY: &str =
+pub(crate) const DEPLOY: &str =
     "{\"deploy\":{\"rulesets\":[{\"id\":\"fw\",\"kind\":\"zone\",\"phase\":\"http_request_firewall_custom\",\"rules\":[{\"id\":\"r1\",\"expression\":\"http.request.uri.path eq \\\"/admin\\\"\",\"action\":\"block\"}]}]}}\n{\"at\":0,\"ip\":\"10.0.0.1\",\"method\":\"GET\",\"target\":\"/admin\",\"headers\":[[\"host\",\"a.example\"]]}\n";
 
 /// The bytes of the first line of `DEPLOY`, with its newline.
 const FIRST_LINE: usize = 181;
 
-const BLOCKED: &str = "deploy v1\n1 v1 block:403 fw/r1 /admin -\n";
+pub(crate) const BLOCKED: &str = "deploy v1\n1 v1 block:403 fw/r1 /admin -\n";
 
 const ROOT: &str =
     "{\"at\":0,\"ip\":\"10.0.0.1\",\"method\":\"GET\",\"target\":\"/\",\"headers\":[[\"host\",\"a.example\"]]}\n";
