@@ -1,3 +1,4 @@
 pub mod Compiled
+pub mod Plain
 pub mod Slots
 pub mod Steps

@@ -5,7 +5,9 @@ ghost use Rattle.list_store.specs.Listed.{list_kinds_of};
 ghost use Rattle.type_check.specs.Trees.{tree_of};
 ghost use Rattle.filter_compile.specs.declared.program.Step.TheVariants as step;
 ghost use Rattle.filter_compile.specs.Compiled.{IsCodeOf, IsCodeOfAll, IsCodeOfChain, IsCodeOfXor, StandsFor};
+ghost use Rattle.filter_compile.specs.Plain.{is_plain};
 
+use crate::plain::is_plain;
 use crate::program::{Filter, Step, Steps};
 use edge_base::{Lit, Memory};
 use list_store::Lists;
@@ -130,8 +132,10 @@ pub fn compile(alloc: Global, typed: Typed, _lists: &Lists) -> Result<Filter, Me
     requires { typed.lists ≡ list_kinds_of _lists.now }
     ensures value { IfOk result (λ filter. StandsFor filter (tree_of typed.root)) }
     ensures lists { IfOk result (λ filter. filter.lists ≡ typed.lists) }
+    ensures plain { IfOk result (λ filter. filter.plain ≡ is_plain (tree_of typed.root)) }
 {
+    let plain = is_plain(typed.root(), 33);
     let (root, lists) = typed.into_parts();
     let steps = steps_of(alloc, root.into_inner())?;
-    Ok(Filter::of(steps, lists))
+    Ok(Filter::of(steps, lists, plain))
 }

@@ -3,6 +3,7 @@
 #![tactic(auto)]
 
 mod compiler;
+mod plain;
 mod program;
 mod running;
 mod shared;

@@ -40,17 +40,23 @@ pub(crate) type Steps = Items<Step>;
 pub struct Filter {
     steps: Steps,
     lists: ListKinds,
+    plain: bool,
     ghost placed: { are_steps_placed lists steps ≡ true },
 }
 
 impl Filter {
-    /// Steps each of whose lists is named by its place among these.
-    pub(crate) fn of(steps: Steps, lists: ListKinds) -> Filter
+    /// Steps each of whose lists is named by its place among these, and whether they are a plain expression's.
+    pub(crate) fn of(steps: Steps, lists: ListKinds, plain: bool) -> Filter
         requires { are_steps_placed lists steps ≡ true }
         ensures steps { result.steps ≡ steps }
         ensures lists { result.lists ≡ lists }
+        ensures plain { result.plain ≡ plain }
     {
-        Filter { steps, lists }
+        Filter {
+            steps,
+            lists,
+            plain,
+        }
     }
 
     /// The steps, from first to last. Takes no memory.
@@ -66,5 +72,14 @@ impl Filter {
         ensures { result.now ≡ self.now.lists }
     {
         &self.lists
+    }
+
+    /// Whether the expression is plain: it has no function, no map and no `matches`, its fields are the method, the path,
+    /// the query, the host, the peer, `ssl`, the second and the reply's status, and at most 33 `xor` chains stand one
+    /// within another. Takes no memory.
+    pub fn plain(&self) -> bool
+        ensures { result ≡ self.now.plain }
+    {
+        self.plain
     }
 }
